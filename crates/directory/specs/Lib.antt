@@ -1,0 +1,4 @@
+pub mod Pointers
+pub mod Fields
+pub mod Device
+pub mod Process

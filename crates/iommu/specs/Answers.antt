@@ -1,0 +1,17 @@
+-- 01's number and values for each case of an answer (01, "What a request holds"). A fault's stage stands in its FaultInfo.
+use Prim.Native.Nat.{ℕ}
+use Rattle.iommu.specs.declared.Answer.{Answer}
+use Rattle.iommu.specs.declared.Answer.the-variants.{Translated, Redirected, Stored, Discarded, Fault, Refused, Taken}
+use Rattle.iommu.specs.declared.Numbers.{Numbers}
+
+abbrev pub numbers : ℕ → ℕ → ℕ → ℕ → Numbers
+numbers kind a b c = record { kind = kind; first = a; second = b; third = c }
+
+abbrev pub numbersOf : Answer → Numbers
+numbersOf (Translated a) = numbers 0 a 0 0
+numbersOf (Redirected a) = numbers 1 a 0 0
+numbersOf (Stored d) = numbers 2 (d .file) (d .notice) (d .number)
+numbersOf Discarded = numbers 3 0 0 0
+numbersOf (Fault f) = numbers 4 (f .cause) 0 0
+numbersOf (Refused r) = numbers 5 r 0 0
+numbersOf (Taken w) = numbers 6 w 0 0

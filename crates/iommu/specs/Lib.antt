@@ -1,0 +1,5 @@
+pub mod Refusals
+pub mod Answers
+pub mod Translate
+pub mod Request
+pub mod Files

@@ -1,0 +1,94 @@
+-- 003, "Process to translate an IOVA", steps 1 to 20, as a walk of loads.
+use Prim.Native.Nat.{ℕ, _-_, _^_}
+use mathlib.Core.Bool.{Bool, not, _||_, _&&_}
+use lib.Dec.{eqb, ltb}
+use Rattle.memory.specs.Choice.{pick}
+use Rattle.memory.specs.Walk.{Walk, done, bind}
+use Rattle.causes.specs.Causes.{accessFault, faultAt, disallowed}
+use Rattle.causes.specs.declared.Access.{Access}
+use Rattle.causes.specs.declared.Stage.the-variants.{Directory}
+use Rattle.causes.specs.declared.FaultInfo.{FaultInfo}
+use Rattle.paging.specs.declared.PageTable.{PageTable}
+use Rattle.paging.specs.declared.Purpose.the-variants.{SecondStage}
+use Rattle.paging.specs.declared.Translation.{Translation}
+use Rattle.paging.specs.declared.Translation.the-variants.{To}
+use Rattle.paging.specs.Stages.{firstStageOf, secondStageOf}
+use Rattle.directory.specs.declared.DeviceContext.{DeviceContext}
+use Rattle.directory.specs.declared.DeviceFound.{DeviceFound}
+use Rattle.directory.specs.declared.DeviceFound.the-variants.{Context}
+use Rattle.directory.specs.declared.PageTableInfo.{PageTableInfo}
+use Rattle.directory.specs.declared.PageTableInfo.the-variants.{Use}
+use Rattle.directory.specs.Pointers.{tooWide}
+use Rattle.directory.specs.Fields.{pageOf, bareOf, secondTable}
+use Rattle.directory.specs.Device.{deviceIndex, deviceContextOf}
+use Rattle.directory.specs.Process.{firstTableOf}
+use Rattle.message.specs.Recognition.{recognised}
+use Rattle.message.specs.Table.{messageOf}
+use Rattle.message.specs.declared.Message.{Message}
+use Rattle.message.specs.declared.Message.the-variants.{Redirect, Record}
+use Rattle.iommu.specs.declared.Settings.{Settings}
+use Rattle.iommu.specs.declared.Request.{Request}
+use Rattle.iommu.specs.declared.Outcome.{Outcome}
+use Rattle.iommu.specs.declared.Outcome.the-variants.{Translated, Redirected, Recorded, Fault}
+
+-- "An address of 2^56 or more that no stage translates is an access fault", of the directory stage
+unfoldable pub untranslated : Access → ℕ → Outcome
+untranslated x a = pick (ltb a (2 ^ 56)) (Translated a) (Fault (faultAt Directory (accessFault x)))
+
+abbrev pub onMessage : Message → Outcome
+onMessage (Message.Fault f) = Fault f
+onMessage (Redirect a) = Redirected a
+onMessage (Record d) = Recorded d
+
+abbrev pub onSecond : Translation → Outcome
+onSecond (Translation.Fault f) = Fault f
+onSecond (To a) = Translated a
+
+-- step 18 applies: "msiptp.MODE != Off", and the guest address is recognised
+unfoldable pub isMessage : DeviceContext → ℕ → Bool
+isMessage c a = not (bareOf (c .msiptp)) && recognised (c .mask) (c .pattern) a
+
+-- steps 18 and 19, for the guest address after the first stage
+unfoldable pub guestOf : DeviceContext → Access → ℕ → Walk Outcome
+guestOf c x a =
+    pick (isMessage c a)
+    (bind (messageOf (pageOf (c .msiptp)) (c .mask) x a) (λ m. done (onMessage m)))
+    (bind (secondStageOf (secondTable (c .iohgatp)) SecondStage x a) (λ t. done (onSecond t)))
+
+abbrev pub onFirst : DeviceContext → Access → Translation → Walk Outcome
+onFirst c x (Translation.Fault f) = done (Fault f)
+onFirst c x (To a) = guestOf c x a
+
+-- steps 17 to 20, with the first stage's table
+unfoldable pub stagesOf : DeviceContext → Request → PageTable → Walk Outcome
+stagesOf c q f =
+    pick (f .on || not (bareOf (c .iohgatp)))
+    (bind (firstStageOf f (secondTable (c .iohgatp)) (q .access) (not (q .supervisor)) (q .address)) (onFirst c (q .access)))
+    (done (untranslated (q .access) (q .address)))
+
+abbrev pub onInfo : DeviceContext → Request → PageTableInfo → Walk Outcome
+onInfo c q (PageTableInfo.Fault f) = done (Fault f)
+onInfo c q (Use t) = stagesOf c q t
+
+-- steps 7 to 20, with the device context
+abbrev pub onDevice : Request → DeviceFound → Walk Outcome
+onDevice q (DeviceFound.Fault f) = done (Fault f)
+onDevice q (Context c) = bind (firstTableOf c (q .process) (q .supervisor) (q .access)) (onInfo c q)
+
+-- "2, 3, 4 are one, two, three levels"
+abbrev pub levelsOf : ℕ → ℕ
+levelsOf mode = mode - 1
+
+-- steps 5 to 20, with a directory
+unfoldable pub directoryOf : Settings → Request → Walk Outcome
+directoryOf s q =
+    pick (tooWide (levelsOf (s .mode)) (deviceIndex (q .device) 1) (deviceIndex (q .device) 2))
+    (done (Fault disallowed))
+    (bind (deviceContextOf (levelsOf (s .mode)) (s .root) (q .device)) (onDevice q))
+
+-- steps 1 to 20: "0 Off (cause 256), 1 Bare (address unchanged, no message recognition)"
+unfoldable pub translateOf : Settings → Request → Walk Outcome
+translateOf s q =
+    pick (eqb (s .mode) 0)
+    (done (Fault (faultAt Directory 256)))
+    (pick (eqb (s .mode) 1) (done (untranslated (q .access) (q .address))) (directoryOf s q))

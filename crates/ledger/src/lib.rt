@@ -1,0 +1,1 @@
+// Demand 3: lists of calls, and the ledger that their history gives.

@@ -1,0 +1,7 @@
+// The lent window as memory.
+
+// A doubleword that was read, or an access violation.
+pub enum Load {
+    Value(u64),
+    Violation,
+}

@@ -1,0 +1,69 @@
+-- A page-table entry (01, "The two walks": "An entry faults if ..").
+use Prim.Native.Nat.{ℕ, _+_, _*_, _%_, _^_}
+use mathlib.Core.Bool.{Bool, true, false, _&&_, not}
+use lib.Dec.{eqb}
+use Rattle.memory.specs.Choice.{pick, any}
+use Rattle.memory.specs.Bits.{bits, bit, anySet}
+use Rattle.causes.specs.declared.Access.{Access}
+use Rattle.causes.specs.declared.Access.the-variants.{Read, Write, Execute}
+use Rattle.paging.specs.declared.Lookup.{Lookup}
+use Rattle.paging.specs.declared.Leaf.{Leaf}
+use Rattle.paging.specs.declared.Entry.{Entry}
+use Rattle.paging.specs.declared.Entry.the-variants.{Faulty, Table, Maps}
+use Rattle.paging.specs.declared.Translation.{Translation}
+use Rattle.paging.specs.declared.Translation.the-variants.{To, Fault}
+use Rattle.paging.specs.Scheme.{pageBitsOf}
+use Rattle.paging.specs.Purpose.{askedOf, pageFaultOf}
+
+-- "page number bits 53:10"
+abbrev pub pageOf : ℕ → ℕ
+pageOf e = bits e 53 10
+
+abbrev pub leafOf : ℕ → Leaf
+leafOf e =
+    record {
+      r = bit e 1;
+      w = bit e 2;
+      x = bit e 3;
+      u = bit e 4;
+      a = bit e 6;
+      d = bit e 7;
+      page = pageOf e;
+    }
+
+-- a valid entry with no reserved bit: "W without R" faults; without R, W and X it is a non-leaf, which faults "with A, D or U"
+abbrev pub kindOf : ℕ → Leaf → Entry
+kindOf page l =
+    pick (l .r)
+    (Maps l)
+    (pick (l .w)
+    Faulty
+    (pick (l .x)
+    (Maps l)
+    (pick (l .u) Faulty (pick (l .a) Faulty (pick (l .d) Faulty (Table page))))))
+
+-- "An entry faults if V = 0, .. any of bits 63:54 set"
+unfoldable pub entryOf : ℕ → Entry
+entryOf e = pick (bit e 0) (pick (anySet e 63 54) Faulty (kindOf (pageOf e) (leafOf e))) Faulty
+
+-- "Read needs R, write W, read-for-execute X"; "or a write with D = 0"
+abbrev pub permits : Access → Leaf → Bool
+permits Read l = l .r
+permits Write l = l .w && l .d
+permits Execute l = l .x
+
+-- "a user request needs U = 1; a supervisor request needs U = 0"
+abbrev pub ownedBy : Bool → Leaf → Bool
+ownedBy true l = l .u
+ownedBy false l = not (l .u)
+
+-- "A = 0" faults
+unfoldable pub allows : Lookup → Leaf → Bool
+allows q l = l .a && (ownedBy (q .user) l && permits (askedOf (q .purpose) (q .access)) l)
+
+-- a page of level n: "a large page whose low page number isn't zero" faults; the offset within the page is kept
+unfoldable pub mappedBy : Lookup → ℕ → Leaf → Translation
+mappedBy q n l =
+    pick (allows q l && eqb (l .page % 2 ^ (9 * n)) 0)
+    (To (l .page * 4096 + q .address % 2 ^ pageBitsOf n))
+    (Fault (pageFaultOf (q .purpose) (q .access)))

@@ -1,0 +1,5 @@
+pub mod Scheme
+pub mod Purpose
+pub mod Entry
+pub mod Levels
+pub mod Stages

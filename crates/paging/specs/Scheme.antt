@@ -1,0 +1,47 @@
+-- The page-table schemes (01: "Each page-table scheme carries its own level count, index widths and address width as facts of the scheme").
+use Prim.Native.Nat.{ℕ, _+_, _-_, _*_, _/_, _%_, _^_}
+use mathlib.Core.Bool.{Bool, true, false, _||_}
+use lib.Dec.{eqb, ltb}
+use Rattle.memory.specs.Choice.{pick}
+use Rattle.memory.specs.Bits.{bits}
+use Rattle.paging.specs.declared.Scheme.{Scheme}
+use Rattle.paging.specs.declared.Scheme.the-variants.{Sv39, Sv39x4}
+
+abbrev pub levelsOf : Scheme → ℕ
+levelsOf Sv39 = 3
+levelsOf Sv39x4 = 3
+
+-- how many bits of the address index the root table ("root index of 11 bits"); every other table has 9
+abbrev pub rootBitsOf : Scheme → ℕ
+rootBitsOf Sv39 = 9
+rootBitsOf Sv39x4 = 11
+
+-- how many bits of an address are translated
+abbrev pub addressBitsOf : Scheme → ℕ
+addressBitsOf Sv39 = 39
+addressBitsOf Sv39x4 = 41
+
+-- whether the bits above those repeat the highest of them; else they are zero
+abbrev pub signedOf : Scheme → Bool
+signedOf Sv39 = true
+signedOf Sv39x4 = false
+
+-- "Sv39: address bits 63:39 must equal bit 38": the bits from 38 on are all 0 or all 1
+abbrev pub signExtended : ℕ → ℕ → Bool
+signExtended width a = eqb (bits a 63 (width - 1)) 0 || eqb (bits a 63 (width - 1)) (2 ^ (65 - width) - 1)
+
+-- "Sv39x4: address below 2^41"
+unfoldable pub legalOf : Scheme → ℕ → Bool
+legalOf s a = pick (signedOf s) (signExtended (addressBitsOf s) a) (ltb a (2 ^ addressBitsOf s))
+
+-- how many index bits a table of level n has; the root's level is the highest, the last level is 0
+abbrev pub indexBitsOf : Scheme → ℕ → ℕ
+indexBitsOf s n = pick (eqb (n + 1) (levelsOf s)) (rootBitsOf s) 9
+
+-- the lowest address bit that level n looks at: a page of level n has 2 to the power of this many bytes
+abbrev pub pageBitsOf : ℕ → ℕ
+pageBitsOf n = 12 + 9 * n
+
+-- Priv, address-translation process, step 2: va.vpn[n]
+unfoldable pub indexOf : Scheme → ℕ → ℕ → ℕ
+indexOf s a n = a / 2 ^ pageBitsOf n % 2 ^ indexBitsOf s n

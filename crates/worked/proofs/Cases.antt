@@ -1,0 +1,30 @@
+-- The worked cases hold of the definitions: the checker computes each row. Assumes nothing.
+use mathlib.Core.Path.{refl}
+use lib.Count.{onesIn, ones}
+use Rattle.memory.specs.Window.{memory}
+use Rattle.paging.specs.Scheme.{legalOf, indexOf}
+use Rattle.paging.specs.Purpose.{pageFaultOf, accessFaultOf}
+use Rattle.paging.specs.Entry.{entryOf, allows, mappedBy}
+use Rattle.paging.specs.Levels.{onLoad, levelOf, levels, walkOf}
+use Rattle.paging.specs.Stages.{secondStageOf, firstStageOf}
+use Rattle.directory.specs.Pointers.{pointerOf, pointers, tooWide}
+use Rattle.directory.specs.Device.{deviceMisconfigured, deviceContextAt, deviceContextOf}
+use Rattle.directory.specs.Process.{processMisconfigured, processContextAt, processContextOf, processTable, firstTableOf}
+use Rattle.message.specs.Recognition.{recognised, packed, extract}
+use Rattle.message.specs.Table.{translateReserved, recordReserved, onNotice, onTranslate, onEntry, messageOf}
+use Rattle.interrupt_file.specs.Bit.{bitAt, raised, lowered}
+use Rattle.interrupt_file.specs.File.{isFile, pendingOf, afterStore, afterTake}
+use Rattle.iommu.specs.Refusals.{badWindow, requestRefusal}
+use Rattle.iommu.specs.Translate.{untranslated, isMessage, guestOf, stagesOf, directoryOf, translateOf}
+use Rattle.iommu.specs.Request.{storable, finish, requestOf, afterRequest}
+use Rattle.worked.specs.Layout.{window, settings}
+use Rattle.worked.specs.Table.{Agrees, table}
+use Rattle.worked.specs.Limits.{limits}
+
+pub cases : Agrees table
+unfolding onesIn ones memory legalOf indexOf pageFaultOf accessFaultOf entryOf allows mappedBy onLoad levelOf levels walkOf secondStageOf firstStageOf pointerOf pointers tooWide deviceMisconfigured deviceContextAt deviceContextOf processMisconfigured processContextAt processContextOf processTable firstTableOf recognised packed extract translateReserved recordReserved onNotice onTranslate onEntry messageOf bitAt raised lowered isFile pendingOf afterStore afterTake badWindow requestRefusal untranslated isMessage guestOf stagesOf directoryOf translateOf storable finish requestOf afterRequest window settings table
+cases = (refl, (refl, (refl, (refl, (refl, (refl, (refl, (refl, (refl, (refl, (refl, (refl, (refl, (refl, tt))))))))))))))
+
+pub limits-hold : Agrees limits
+unfolding legalOf isFile badWindow limits
+limits-hold = (refl, (refl, (refl, (refl, (refl, (refl, (refl, (refl, (refl, (refl, (refl, (refl, (refl, (refl, (refl, (refl, tt))))))))))))))))
