@@ -1,7 +1,7 @@
 -- Laws of walks, each once for every walk. Assumes nothing.
 use Prim.Native.Nat.{ℕ}
 use mathlib.Core.List.{List, [], _∷_, _++_}
-use mathlib.Core.Path.{_≡_, refl, ap, _∙_}
+use mathlib.Core.Path.{_≡_, refl, sym, ap, _∙_}
 use Rattle.memory.specs.declared.Load.{Load}
 use Rattle.memory.specs.Walk.{Walk, done, load, bind, run, trace}
 
@@ -27,3 +27,14 @@ run-agree m n (load p k) (cons e g) = run-agree m n (k (m p)) g ∙ ap (λ v. ru
 pub trace-agree : {A : Type 0} (m n : ℕ → Load) (w : Walk A) → Agree m n (trace m w) → trace m w ≡ trace n w
 trace-agree m n (done a) g = refl
 trace-agree m n (load p k) (cons e g) = ap (λ t. p ∷ t) (trace-agree m n (k (m p)) g ∙ ap (λ v. trace n (k v)) e)
+
+-- how a proof goes through a walk: x is its result where x is the result of what follows
+pub then : {A B : Type 0} (m : ℕ → Load) (w : Walk A) (f : A → Walk B) {a : A} {x : B} → a ≡ run m w → x ≡ run m (f a) → x ≡ run m (bind w f)
+then m w f p e = e ∙ ap (λ v. run m (f v)) p ∙ sym (run-bind m w f)
+
+pub loads : {A : Type 0} (m : ℕ → Load) (a : ℕ) (k : Load → Walk A) {v : Load} {x : A} → v ≡ m a → x ≡ run m (k v) → x ≡ run m (load a k)
+loads m a k p e = e ∙ ap (λ v. run m (k v)) p
+
+-- the next walk is chosen by a value y that is known to be z
+pub at : {A B : Type 0} (m : ℕ → Load) (f : A → Walk B) {y z : A} {x : B} → y ≡ z → x ≡ run m (f z) → x ≡ run m (f y)
+at m f p e = e ∙ sym (ap (λ v. run m (f v)) p)

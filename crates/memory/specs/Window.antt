@@ -12,10 +12,14 @@ use Rattle.memory.specs.declared.Load.the-variants.{Value, Violation}
 abbrev pub inside : ℕ → ℕ → ℕ → ℕ → Bool
 inside start len a size = leb start a && leb (a + size) (start + len)
 
--- the number whose eight bytes, lowest first, stand from index i on (01: "little-endian")
+-- the number whose bytes are b0, the lowest, to b7
+abbrev pub little : ℕ → ℕ → ℕ → ℕ → ℕ → ℕ → ℕ → ℕ → ℕ
+little b0 b1 b2 b3 b4 b5 b6 b7 =
+    b0 + 256 * (b1 + 256 * (b2 + 256 * (b3 + 256 * (b4 + 256 * (b5 + 256 * (b6 + 256 * b7))))))
+
+-- the little-endian number of the eight bytes from index i on
 abbrev pub doubleword : List ℕ → ℕ → ℕ
-doubleword bytes i =
-    at 0 + 256 * (at 1 + 256 * (at 2 + 256 * (at 3 + 256 * (at 4 + 256 * (at 5 + 256 * (at 6 + 256 * at 7))))))
+doubleword bytes i = little (getD bytes i 0) (at 1) (at 2) (at 3) (at 4) (at 5) (at 6) (at 7)
   where
     at : ℕ → ℕ
     at k = getD bytes (i + k) 0
