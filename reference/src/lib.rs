@@ -6,16 +6,23 @@
 
 #![forbid(unsafe_code)]
 
+pub mod coverage;
+pub mod damage;
 pub mod device;
 pub mod file;
+pub mod generate;
 pub mod iommu;
+pub mod layout;
+pub mod ledger;
 pub mod mark;
 pub mod memory;
 pub mod message;
 pub mod paging;
 pub mod process;
+pub mod random;
 pub mod task;
 pub mod types;
+pub mod world;
 
 pub use iommu::{report, request, take};
 pub use types::{Access, Answer, Pair, Report, Request, Settings, Stage};

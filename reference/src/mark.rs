@@ -256,6 +256,8 @@ impl Mark {
         for &walk in Walk::ALL {
             marks.extend(Access::ALL.map(|access| Mark::PageFault(walk, access)));
             marks.extend(Access::ALL.map(|access| Mark::Violation(walk, access)));
+        }
+        for &walk in Walk::ALL {
             marks.extend([0, 1, 2].map(|level| Mark::Size(walk, level)));
         }
         for first in 0..3 {
