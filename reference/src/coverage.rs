@@ -195,3 +195,16 @@ fn check_change(
     }
     Ok(())
 }
+
+#[cfg(test)]
+mod tests {
+    use super::Coverage;
+
+    #[test]
+    fn generated_lists_keep_the_ledger() {
+        let coverage = Coverage::run(11, 20_000);
+        assert!(coverage.failures.is_empty(), "{:?}", coverage.failures);
+        assert!(coverage.unexpected().is_empty());
+        assert_eq!(coverage.calls, 20_000);
+    }
+}

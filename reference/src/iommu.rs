@@ -397,3 +397,65 @@ pub fn report_observed(start: u64, window: &[u8], file: u64, see: See) -> Report
     see(Mark::Point(Point::ReportMade));
     report
 }
+
+#[cfg(test)]
+mod tests {
+    use super::{report, request, take};
+    use crate::random::Random;
+    use crate::types::{Access, Request, Settings};
+
+    /// A number at an edge, or any number.
+    fn any(random: &mut Random) -> u64 {
+        let edge = 1u64 << random.below(64);
+        match random.below(6) {
+            0 => edge,
+            1 => edge - 1,
+            2 => u64::MAX - random.below(5_000),
+            3 => random.below(5),
+            4 => random.below(1 << 14) & !0x1FF,
+            _ => random.number(),
+        }
+    }
+
+    /// Any input is answered: wholly free arguments over free bytes.
+    #[test]
+    fn every_input_is_answered() {
+        let mut random = Random::new(3, 3);
+        for _ in 0..60_000 {
+            let length = random.pick(&[0, 1, 512, 4_095, 4_096, 4_096, 8_192, 8_192]);
+            let full = random.number() | random.number();
+            let mut window: Vec<u8> = (0..length).map(|n| (full >> (n % 61)) as u8).collect();
+            let start = if random.chance(70) {
+                0
+            } else {
+                any(&mut random)
+            };
+            let settings = Settings {
+                start,
+                mode: if random.chance(80) {
+                    2
+                } else {
+                    any(&mut random)
+                },
+                root: if random.chance(70) {
+                    0
+                } else {
+                    any(&mut random)
+                },
+            };
+            let process = any(&mut random);
+            let asked = Request {
+                device_id: any(&mut random),
+                process_id: random.chance(50).then_some(process),
+                supervisor: random.chance(30),
+                access: random.pick(&Access::ALL),
+                address: any(&mut random),
+                length: any(&mut random),
+            };
+            request(&settings, &mut window, &asked, random.number() as u32);
+            let (file, identity) = (any(&mut random), any(&mut random));
+            take(start, &mut window, file, identity);
+            report(start, &window, file);
+        }
+    }
+}

@@ -6,6 +6,7 @@
 
 #![forbid(unsafe_code)]
 
+pub mod check;
 pub mod coverage;
 pub mod damage;
 pub mod device;
@@ -21,6 +22,7 @@ pub mod paging;
 pub mod process;
 pub mod random;
 pub mod task;
+pub mod text;
 pub mod types;
 pub mod world;
 

@@ -529,7 +529,7 @@ impl World {
             let high = if top >= 256 { u64::MAX << 39 } else { 0 };
             let flags = self.leaf_flags(!supervisor);
             let entry = leaf(align_down(guest, own), flags);
-            found = (base + guest % own | high, own.min(second_span));
+            found = ((base + guest % own) | high, own.min(second_span));
             if self.map(&SV39, root, device.space.as_ref(), base, level, entry) {
                 break;
             }
@@ -578,7 +578,7 @@ impl World {
                 let low = self.random.of_width(10);
                 let bit10 = self.random.below(2) << 60;
                 let notice = self.random.of_width(44) << 10;
-                (file / 512 << 7 | 3, low | bit10 | notice)
+                ((file / 512) << 7 | 3, low | bit10 | notice)
             } else {
                 (self.random.of_width(44) << 10 | 7, self.random.number())
             };
