@@ -64,12 +64,13 @@ impl Coverage {
             let answer = run_call(list.start, &mut window, call, &mut see);
             self.calls += 1;
             self.answers[answer.numbers()[0] as usize] += 1;
-            let verdict = check_change(list.start, &before, &window, call, answer)
-                .and_then(|()| ledger.feed(call, answer));
-            self.check(index, number, verdict);
             if before != window {
+                let verdict = check_change(list.start, &before, &window, call, answer);
+                self.check(index, number, verdict);
                 before.copy_from_slice(&window);
             }
+            let verdict = ledger.feed(call, answer);
+            self.check(index, number, verdict);
         }
         self.check(index, list.calls.len(), ledger.close(&window));
         self.check_reports(list, index, &window, &ledger);
@@ -166,8 +167,8 @@ impl Coverage {
     }
 }
 
-/// 01, What a request holds: only answers 2 and 6 may change the window, and they at most the one
-/// byte of their file that holds the identity's bit.
+/// Looks at a window that changed. 01, What a request holds: only answers 2 and 6 may change it, and
+/// they at most the one byte of their file that holds the identity's bit.
 fn check_change(
     start: u64,
     before: &[u8],
@@ -175,9 +176,6 @@ fn check_change(
     call: &Call,
     answer: Answer,
 ) -> Result<(), String> {
-    if before == after {
-        return Ok(());
-    }
     let (file, identity) = match (call, answer) {
         (Call::Request { request, data, .. }, Answer::Stored { file, .. }) => {
             (file, crate::message::identity_of(request.address, *data))

@@ -105,41 +105,19 @@ fn take_call(world: &mut World, stored: &[(u64, u64)]) -> Call {
 
 /// A request at one of the targets, at times with one field changed.
 fn request_call(world: &mut World, stored: &mut Vec<(u64, u64)>) -> Call {
-    let any = Target {
-        device: world.random.of_width(24),
-        process: None,
-        supervisor: false,
-        address: world.random.number(),
-        span: 4_096,
-        message: None,
-    };
-    let target = world.random.choose(&world.targets).unwrap_or(any);
+    let target = choose_target(world);
     let random = &mut world.random;
-    let page = target
-        .address
-        .wrapping_add(random.below(target.span / 4_096) * 4_096);
+    let page = random.below(target.span / 4_096) * 4_096;
     let (offset, length) = choose_piece(random, target.message.is_some());
     let mut request = Request {
         device_id: target.device,
         process_id: target.process,
         supervisor: target.supervisor,
         access: choose_access(random, target.message.is_some()),
-        address: page | offset,
+        address: target.address.wrapping_add(page) | offset,
         length,
     };
-    let identity = match stored.last() {
-        Some((_, identity)) if random.chance(35) => *identity,
-        _ => choose_identity(random),
-    };
-    let data = match offset {
-        4 if random.chance(85) => (identity as u32).swap_bytes(),
-        _ => identity as u32,
-    };
-    if let Some(file) = target.message {
-        if request.access == Access::Write && length == 4 && (offset == 0 || offset == 4) {
-            stored.push((file, identity));
-        }
-    }
+    let data = choose_data(random, &request, target.message, stored);
     let (mut mode, mut root) = (world.mode, world.root);
     if random.chance(8) {
         (mode, root) = change_settings(random, mode, root, world.layout.start);
@@ -151,6 +129,43 @@ fn request_call(world: &mut World, stored: &mut Vec<(u64, u64)>) -> Call {
         root,
         request,
         data,
+    }
+}
+
+/// One of the world's targets; any address where it has none.
+fn choose_target(world: &mut World) -> Target {
+    let any = Target {
+        device: world.random.of_width(24),
+        process: None,
+        supervisor: false,
+        address: world.random.number(),
+        span: 4_096,
+        message: None,
+    };
+    world.random.choose(&world.targets).unwrap_or(any)
+}
+
+/// The data value: an identity, reversed at offset 4; what may be stored is remembered for takes.
+fn choose_data(
+    random: &mut Random,
+    request: &Request,
+    file: Option<u64>,
+    stored: &mut Vec<(u64, u64)>,
+) -> u32 {
+    let offset = request.address % 4_096;
+    let identity = match stored.last() {
+        Some((_, identity)) if random.chance(35) => *identity,
+        _ => choose_identity(random),
+    };
+    if let Some(file) = file {
+        let storable = request.access == Access::Write && request.length == 4;
+        if storable && (offset == 0 || offset == 4) {
+            stored.push((file, identity));
+        }
+    }
+    match offset {
+        4 if random.chance(85) => (identity as u32).swap_bytes(),
+        _ => identity as u32,
     }
 }
 

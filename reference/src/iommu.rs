@@ -205,10 +205,23 @@ fn translate_stages(
         return message_end(task, context, guest, data);
     }
     // Step 19.
-    let Some(root) = &second else {
-        task.note(Point::PassedFirst);
-        return Ok(End::Answer(Answer::Translated(guest)));
-    };
+    match &second {
+        Some(root) => translate_guest(task, context, root, guest, first_level),
+        None => {
+            task.note(Point::PassedFirst);
+            Ok(End::Answer(Answer::Translated(guest)))
+        }
+    }
+}
+
+/// 003, Process to translate an IOVA, steps 19 and 20, where the second stage is on.
+fn translate_guest(
+    task: &mut Task,
+    context: &DeviceContext,
+    root: &Root,
+    guest: u64,
+    first_level: Option<u64>,
+) -> Step<End> {
     if !context.messages_on() {
         task.note(Point::MessageOff);
     }
@@ -220,7 +233,6 @@ fn translate_stages(
         }
         None => task.note(Point::PassedSecond),
     }
-    // Step 20.
     Ok(End::Answer(Answer::Translated(page.address)))
 }
 
@@ -247,19 +259,34 @@ fn is_message(task: &mut Task, context: &DeviceContext, guest: u64, after_first:
 
 /// 01, Messages: what a recognised access becomes.
 fn message_end(task: &mut Task, context: &DeviceContext, guest: u64, data: u32) -> Step<End> {
-    let request = task.request;
-    let (file, notice_address, notice_number) = match message::locate(task, context, guest)? {
+    match message::locate(task, context, guest)? {
         // 003, step 13.2: the offset is kept.
         MessageEntry::Redirect { page } => {
             task.note(Point::Redirect);
-            return Ok(End::Answer(Answer::Redirected(page | (guest % 4_096))));
+            Ok(End::Answer(Answer::Redirected(page | (guest % 4_096))))
         }
         MessageEntry::File {
             file,
             notice_address,
             notice_number,
-        } => (file, notice_address, notice_number),
-    };
+        } => {
+            let Some(identity) = stored_identity(task, file, guest, data)? else {
+                return Ok(End::Answer(Answer::Discarded));
+            };
+            note_store(task, guest, identity, notice_number);
+            Ok(End::Store(Store {
+                file,
+                identity,
+                notice_address,
+                notice_number,
+            }))
+        }
+    }
+}
+
+/// 01, Messages: the identity to store, none where the access is discarded, or refusal 2007.
+fn stored_identity(task: &mut Task, file: u64, guest: u64, data: u32) -> Step<Option<u64>> {
+    let request = task.request;
     let inside = task.window.holds(file, FILE_SIZE);
     match message::identity_to_store(request.access, request.length, guest, data) {
         // Discarded before 2007 is looked at.
@@ -268,7 +295,7 @@ fn message_end(task: &mut Task, context: &DeviceContext, guest: u64, data: u32) 
             if !inside {
                 task.note(Point::DiscardOutside);
             }
-            Ok(End::Answer(Answer::Discarded))
+            Ok(None)
         }
         // Refusal 2007, last of all.
         Ok(_) if !inside => {
@@ -278,15 +305,7 @@ fn message_end(task: &mut Task, context: &DeviceContext, guest: u64, data: u32) 
             });
             Err(Answer::Refused(2007))
         }
-        Ok(identity) => {
-            note_store(task, guest, identity, notice_number);
-            Ok(End::Store(Store {
-                file,
-                identity,
-                notice_address,
-                notice_number,
-            }))
-        }
+        Ok(identity) => Ok(Some(identity)),
     }
 }
 

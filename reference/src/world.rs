@@ -307,25 +307,30 @@ impl World {
             space,
             messages,
         };
-        match self.random.below(100) {
-            0..=39 => words[3] = self.add_first_stage(&device, None, false),
-            40..=47 => {
-                words[0] |= 1 << 5 | self.random.below(2) << 9;
-                words[3] = self.random.of_width(44);
-                for process in [None, Some(0), Some(0x345), Some(0xF_FFFF)] {
-                    self.add_targets(&device, process, process == Some(0x345), None);
-                }
-            }
-            _ => {
-                words[0] |= 1 << 5 | self.random.below(2) << 9;
-                words[3] = self.add_process_directory(&device);
-                self.add_targets(&device, None, false, None);
-            }
-        }
+        self.choose_first_stage(&device, &mut words);
         for (number, word) in words.iter().enumerate() {
             self.layout.put(context + 8 * number as u64, *word);
         }
         self.places.push(Place::DeviceContext(context));
+    }
+
+    /// The device's own first stage, a Bare process directory, or PD8, PD17 or PD20.
+    fn choose_first_stage(&mut self, device: &DevicePlan, words: &mut [u64; 8]) {
+        match self.random.below(100) {
+            0..=39 => words[3] = self.add_first_stage(device, None, false),
+            40..=47 => {
+                words[0] |= 1 << 5 | self.random.below(2) << 9;
+                words[3] = self.random.of_width(44);
+                for process in [None, Some(0), Some(0x345), Some(0xF_FFFF)] {
+                    self.add_targets(device, process, process == Some(0x345), None);
+                }
+            }
+            _ => {
+                words[0] |= 1 << 5 | self.random.below(2) << 9;
+                words[3] = self.add_process_directory(device);
+                self.add_targets(device, None, false, None);
+            }
+        }
     }
 
     /// A valid context with both stages Bare, and noise where no mode gives a field a meaning.
