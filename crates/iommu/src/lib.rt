@@ -2,11 +2,13 @@
 use causes::Access;
 use causes::FaultInfo;
 use directory::ProcessId;
+use interrupt_file::Report;
 use message::Destination;
 ghost use mathlib.Core.Path.{_≡_};
 ghost use mathlib.Core.Bool.{_&&_};
 ghost use Rattle.iommu.specs.Refusals.{badWindow, badDirectory, badProcess, absent, badLength, requestRefusal, takeRefusal, reportRefusal};
 ghost use Rattle.iommu.specs.Answers.{numbers as numbersBy, numbersOf};
+ghost use Rattle.iommu.specs.Files.{takeOf, afterTakeOf, reportOf};
 ghost use Rattle.iommu.specs.Bounds.{Accepted, Takeable, Reportable};
 
 // Where the window starts, and the device directory. The window's length is that of the lent bytes.
@@ -168,4 +170,56 @@ fn numbered(kind: u64, first: u64) -> Numbers
         second: 0,
         third: 0,
     }
+}
+
+// The number of the first check that a take fails, or 0.
+fn take_refusal(start: u64, len: u64, file: u64, identity: u64) -> u64
+    ensures { λ r. ⌜ (r ≡ takeRefusal start len file identity) × Takeable start len file identity r ⌝ }
+{
+    if bad_window(start, len) {
+        return 2001;
+    }
+    if interrupt_file::is_file(start, len, file) {
+        if 2047 < identity {
+            return 2009;
+        }
+        return 0;
+    }
+    2008
+}
+
+// The number of the first check that a report fails, or 0.
+fn report_refusal(start: u64, len: u64, file: u64) -> u64
+    ensures { λ r. ⌜ (r ≡ reportRefusal start len file) × Reportable start len file r ⌝ }
+{
+    if bad_window(start, len) {
+        return 2001;
+    }
+    if interrupt_file::is_file(start, len, file) {
+        return 0;
+    }
+    2008
+}
+
+// Takes a pending interrupt of a file.
+pub fn take(start: u64, window: &mut [u8], file: u64, identity: u64) -> Answer
+    ensures answer { λ r. ⌜ r ≡ takeOf start (now (window .entry)) file identity ⌝ }
+    ensures bytes { λ _. ⌜ now (window .exit) ≡ afterTakeOf start (now (window .entry)) file identity ⌝ }
+{
+    let refusal = take_refusal(start, window.len() as u64, file, identity);
+    if refusal == 0 {
+        return Answer::Taken(interrupt_file::take(start, window, file, identity));
+    }
+    Answer::Refused(refusal)
+}
+
+// Reports a file: its pairs of doublewords, and how many identities are pending.
+pub fn report(start: u64, window: &[u8], file: u64) -> Report
+    ensures { λ r. ⌜ r ≡ reportOf start (now (window .entry)) file ⌝ }
+{
+    let refusal = report_refusal(start, window.len() as u64, file);
+    if refusal == 0 {
+        return interrupt_file::file_report(window, (file - start) as usize);
+    }
+    interrupt_file::refused_report(refusal)
 }
