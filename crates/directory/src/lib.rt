@@ -1,6 +1,21 @@
 // The device directory with its contexts, and the process directory with its.
 use causes::FaultInfo;
+use causes::Stage;
+use memory::Load;
 use paging::PageTable;
+ghost use mathlib.Core.Path.{_≡_};
+ghost use mathlib.Core.List.{[], _∷_};
+ghost use Prim.Native.Nat.{_+_, _-_, _<_, _≤_, _^_};
+ghost use Rattle.memory.specs.Bits.{bits, bit as bitOf, anySet};
+ghost use Rattle.memory.specs.Choice.{any};
+ghost use Rattle.memory.specs.Window.{memory};
+ghost use Rattle.memory.specs.Walk.{run};
+ghost use Rattle.paging.specs.Stages.{direct};
+ghost use Rattle.directory.specs.Pointers.{loadFault, invalid as invalidOf, misconfigured as misconfiguredOf, pointerOf, pointers, tooWide};
+ghost use Rattle.directory.specs.Fields.{modeOf, pageOf, bareOf, validMode};
+ghost use Rattle.directory.specs.Device.{deviceIndex, deviceMisconfigured, checkedDevice, deviceContextAt, deviceContextOf};
+ghost use Rattle.directory.specs.Process.{processIndex};
+ghost use Rattle.directory.specs.Sound.{Near};
 
 // The two directories.
 pub enum Tree {
@@ -52,4 +67,139 @@ pub enum ProcessId {
 pub enum PageTableInfo {
     Use(PageTable),
     Fault(FaultInfo),
+}
+
+// Bits high to low of e, as a number.
+fn field(e: u64, high: u64, low: u64) -> u64
+    requires { ⌜ (low ≤ high) × (high < low + 63) × (low < 64) ⌝ }
+    ensures { λ r. ⌜ r ≡ bits e high low ⌝ }
+{
+    (e >> low) % (1 << (high + 1 - low))
+}
+
+// Some bit from high to low is 1.
+fn any_set(e: u64, high: u64, low: u64) -> bool
+    requires { ⌜ (low ≤ high) × (high < low + 63) × (low < 64) ⌝ }
+    ensures { λ r. ⌜ r ≡ anySet e high low ⌝ }
+{
+    field(e, high, low) != 0
+}
+
+// Bit k of e is 1.
+fn bit(e: u64, k: u64) -> bool
+    requires { ⌜ k < 64 ⌝ }
+    ensures { λ r. ⌜ r ≡ bitOf e k ⌝ }
+{
+    (e >> k) % 2 == 1
+}
+
+fn load_fault(t: Tree) -> FaultInfo
+    ensures { λ r. ⌜ r ≡ loadFault t ⌝ }
+{
+    match t {
+        Tree::Device => FaultInfo {
+            cause: 257,
+            stage: Stage::Directory,
+        },
+        Tree::Process => FaultInfo {
+            cause: 265,
+            stage: Stage::ProcessDirectory,
+        },
+    }
+}
+
+fn invalid(t: Tree) -> FaultInfo
+    ensures { λ r. ⌜ r ≡ invalidOf t ⌝ }
+{
+    match t {
+        Tree::Device => FaultInfo {
+            cause: 258,
+            stage: Stage::Directory,
+        },
+        Tree::Process => FaultInfo {
+            cause: 266,
+            stage: Stage::ProcessDirectory,
+        },
+    }
+}
+
+fn misconfigured(t: Tree) -> FaultInfo
+    ensures { λ r. ⌜ r ≡ misconfiguredOf t ⌝ }
+{
+    match t {
+        Tree::Device => FaultInfo {
+            cause: 259,
+            stage: Stage::Directory,
+        },
+        Tree::Process => FaultInfo {
+            cause: 267,
+            stage: Stage::ProcessDirectory,
+        },
+    }
+}
+
+// A non-leaf entry as it was loaded.
+fn pointer(t: Tree, v: Load) -> Pointed
+    ensures { λ r. ⌜ (r ≡ pointerOf t v) × Near r ⌝ }
+{
+    let Load::Value(e) = v else {
+        return Pointed::Fault(load_fault(t));
+    };
+    if !bit(e, 0) {
+        return Pointed::Fault(invalid(t));
+    }
+    if any_set(e, 9, 1) | any_set(e, 63, 54) {
+        return Pointed::Fault(misconfigured(t));
+    }
+    Pointed::Next(field(e, 53, 10))
+}
+
+fn device_index(d: u64, n: u64) -> u64
+    ensures { λ r. ⌜ (r ≡ deviceIndex d n) × (r < 512) ⌝ }
+{
+    if n == 0 {
+        return field(d, 5, 0);
+    }
+    if n == 1 {
+        return field(d, 14, 6);
+    }
+    field(d, 23, 15)
+}
+
+fn process_index(p: u64, n: u64) -> u64
+    ensures { λ r. ⌜ (r ≡ processIndex p n) × (r < 512) ⌝ }
+{
+    if n == 0 {
+        return field(p, 7, 0);
+    }
+    if n == 1 {
+        return field(p, 16, 8);
+    }
+    field(p, 19, 17)
+}
+
+// An index above the level count isn't zero.
+pub fn too_wide(levels: u64, index1: u64, index2: u64) -> bool
+    ensures { λ r. ⌜ r ≡ tooWide levels index1 index2 ⌝ }
+{
+    ((levels <= 1) & (index1 != 0)) | ((levels <= 2) & (index2 != 0))
+}
+
+// From the root to the table of contexts.
+fn device_table(levels: u64, root: u64, d: u64, start: u64, window: &[u8]) -> Pointed
+    requires { ⌜ root < 2 ^ 44 ⌝ }
+    ensures { λ r. ⌜ (r ≡ run (memory start (now (window .entry))) (pointers Tree.Device (deviceIndex d) direct (levels - 1) root)) × Near r ⌝ }
+{
+    let mut left = levels;
+    let mut table = root;
+    while 1 < left {
+        left -= 1;
+        let at = table * 4096 + 8 * device_index(d, left);
+        let p = pointer(Tree::Device, memory::load64(start, window, at));
+        let Pointed::Next(next) = p else {
+            return p;
+        };
+        table = next;
+    }
+    Pointed::Next(table)
 }
