@@ -5,7 +5,9 @@ use memory::Load;
 use paging::PageTable;
 ghost use mathlib.Core.Path.{_≡_};
 ghost use mathlib.Core.List.{[], _∷_};
-ghost use Prim.Native.Nat.{_+_, _-_, _<_, _≤_, _^_};
+ghost use mathlib.Core.Bool.{_&&_, not};
+ghost use lib.Dec.{eqb, leb};
+ghost use Prim.Native.Nat.{_+_, _-_, _%_, _<_, _≤_, _^_};
 ghost use Rattle.memory.specs.Bits.{bits, bit as bitOf, anySet};
 ghost use Rattle.memory.specs.Choice.{any};
 ghost use Rattle.memory.specs.Window.{memory};
@@ -13,7 +15,7 @@ ghost use Rattle.memory.specs.Walk.{run};
 ghost use Rattle.paging.specs.Stages.{direct};
 ghost use Rattle.directory.specs.Pointers.{loadFault, invalid as invalidOf, misconfigured as misconfiguredOf, pointerOf, pointers, tooWide};
 ghost use Rattle.directory.specs.Fields.{modeOf, pageOf, bareOf, validMode};
-ghost use Rattle.directory.specs.Device.{deviceIndex, deviceMisconfigured, checkedDevice, deviceContextAt, deviceContextOf};
+ghost use Rattle.directory.specs.Device.{pdtv, dpe, deviceIndex, deviceMisconfigured, checkedDevice, deviceContextAt, deviceContextOf};
 ghost use Rattle.directory.specs.Process.{processIndex};
 ghost use Rattle.directory.specs.Sound.{Near};
 
@@ -83,6 +85,13 @@ fn any_set(e: u64, high: u64, low: u64) -> bool
     ensures { λ r. ⌜ r ≡ anySet e high low ⌝ }
 {
     field(e, high, low) != 0
+}
+
+// The same for all bits of e.
+fn nonzero(e: u64) -> bool
+    ensures { λ r. ⌜ r ≡ anySet e 63 0 ⌝ }
+{
+    e != 0
 }
 
 // Bit k of e is 1.
@@ -202,4 +211,79 @@ fn device_table(levels: u64, root: u64, d: u64, start: u64, window: &[u8]) -> Po
         table = next;
     }
     Pointed::Next(table)
+}
+
+fn mode(w: u64) -> u64
+    ensures { λ r. ⌜ r ≡ modeOf w ⌝ }
+{
+    w >> 60
+}
+
+fn page(w: u64) -> u64
+    ensures { λ r. ⌜ (r ≡ pageOf w) × (r < 2 ^ 44) ⌝ }
+{
+    field(w, 43, 0)
+}
+
+fn bare(w: u64) -> bool
+    ensures { λ r. ⌜ r ≡ bareOf w ⌝ }
+{
+    mode(w) == 0
+}
+
+fn valid_mode(w: u64) -> bool
+    ensures { λ r. ⌜ r ≡ validMode w ⌝ }
+{
+    bare(w) | (mode(w) == 8)
+}
+
+// Reserved bits of the doublewords that hold control and attributes.
+fn control_reserved(c: DeviceContext) -> bool
+    ensures { λ r. ⌜ r ≡ any (anySet (c .tc) 3 1 ∷ anySet (c .tc) 8 6 ∷ anySet (c .tc) 63 10 ∷ anySet (c .ta) 11 0 ∷ anySet (c .ta) 63 32 ∷ []) ⌝ }
+{
+    any_set(c.tc, 3, 1)
+        | any_set(c.tc, 8, 6)
+        | any_set(c.tc, 63, 10)
+        | any_set(c.ta, 11, 0)
+        | any_set(c.ta, 63, 32)
+}
+
+// Reserved bits of the doublewords that hold tables, mask and pattern.
+fn table_reserved(c: DeviceContext) -> bool
+    ensures { λ r. ⌜ r ≡ any (anySet (c .fsc) 59 44 ∷ anySet (c .msiptp) 59 44 ∷ anySet (c .mask) 63 29 ∷ anySet (c .pattern) 63 29 ∷ anySet (c .reserved) 63 0 ∷ []) ⌝ }
+{
+    any_set(c.fsc, 59, 44)
+        | any_set(c.msiptp, 59, 44)
+        | any_set(c.mask, 63, 29)
+        | any_set(c.pattern, 63, 29)
+        | nonzero(c.reserved)
+}
+
+// A first stage, or a process directory, that can't be.
+fn first_wrong(c: DeviceContext) -> bool
+    ensures { λ r. ⌜ r ≡ any ((pdtv c && not (leb (modeOf (c .fsc)) 3)) ∷ (not (pdtv c) && not (validMode (c .fsc))) ∷ (not (pdtv c) && dpe c) ∷ []) ⌝ }
+{
+    if bit(c.tc, 5) {
+        return 3 < mode(c.fsc);
+    }
+    if bit(c.tc, 9) {
+        return true;
+    }
+    !valid_mode(c.fsc)
+}
+
+// A second stage or a message table that can't be.
+fn second_wrong(c: DeviceContext) -> bool
+    ensures { λ r. ⌜ r ≡ any (not (validMode (c .iohgatp)) ∷ not (leb (modeOf (c .msiptp)) 1) ∷ (not (bareOf (c .iohgatp)) && not (eqb (pageOf (c .iohgatp) % 4) 0)) ∷ (bareOf (c .iohgatp) && not (bareOf (c .msiptp))) ∷ []) ⌝ }
+{
+    if bare(c.iohgatp) {
+        return !bare(c.msiptp);
+    }
+    !valid_mode(c.iohgatp) | (1 < mode(c.msiptp)) | (page(c.iohgatp) % 4 != 0)
+}
+
+fn device_misconfigured(c: DeviceContext) -> bool
+    ensures { λ r. ⌜ r ≡ deviceMisconfigured c ⌝ }
+{
+    control_reserved(c) | table_reserved(c) | first_wrong(c) | second_wrong(c)
 }
