@@ -84,8 +84,19 @@ pub ended : (m : ℕ → Load) (t : Tree) (index : ℕ → ℕ) (reach : ℕ →
 unfolding pointers
 ended m t index reach left table w p hw = sym (ap (λ k. run m (pointers t index reach k table)) (none-left left p)) ∙ hw
 
-pub near-next : (y : Pointed) (k : ℕ) → y ≡ Next k → Near y → k < 2 ^ 44
-near-next y k e h = subst Near e h
+-- the page that was found leaves room for the address of an entry
+module _ (y : Pointed) (k : ℕ) (e : y ≡ Next k) (h : Near y) where
+  pub near-next : k < 2 ^ 44
+  near-next = subst Near e h
+
+  pub near-page : k * 4096 < 2 ^ 64
+  near-page = let l = near-next in omega arith
+
+  pub near-place : (i : ℕ) → i < 512 → k * 4096 + 64 * i < 2 ^ 64
+  near-place i l = let n = near-next in omega arith
+
+  pub near-context : (i : ℕ) → i < 512 → k * 4096 + 64 * i < 2 ^ 60
+  near-context i l = let n = near-next in omega arith
 
 -- the device directory's entries lie where their addresses say
 module _ (m : ℕ → Load) (d left table i : ℕ) (v : Load) (y w : Pointed)

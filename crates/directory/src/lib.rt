@@ -7,17 +7,18 @@ ghost use mathlib.Core.Path.{_≡_};
 ghost use mathlib.Core.List.{[], _∷_};
 ghost use mathlib.Core.Bool.{_&&_, not};
 ghost use lib.Dec.{eqb, leb};
+ghost use lib.ListN.{length};
 ghost use Prim.Native.Nat.{_+_, _-_, _%_, _<_, _≤_, _^_};
 ghost use Rattle.memory.specs.Bits.{bits, bit as bitOf, anySet};
 ghost use Rattle.memory.specs.Choice.{any};
-ghost use Rattle.memory.specs.Window.{memory};
+ghost use Rattle.memory.specs.Window.{doubleword, memory};
 ghost use Rattle.memory.specs.Walk.{run};
 ghost use Rattle.paging.specs.Stages.{direct};
 ghost use Rattle.directory.specs.Pointers.{loadFault, invalid as invalidOf, misconfigured as misconfiguredOf, pointerOf, pointers, tooWide};
 ghost use Rattle.directory.specs.Fields.{modeOf, pageOf, bareOf, validMode};
 ghost use Rattle.directory.specs.Device.{pdtv, dpe, deviceIndex, deviceMisconfigured, checkedDevice, deviceContextAt, deviceContextOf};
 ghost use Rattle.directory.specs.Process.{processIndex};
-ghost use Rattle.directory.specs.Sound.{Near};
+ghost use Rattle.directory.specs.Sound.{Near, Masked};
 
 // The two directories.
 pub enum Tree {
@@ -29,6 +30,18 @@ pub enum Tree {
 pub enum Pointed {
     Next(u64),
     Fault(FaultInfo),
+}
+
+impl Pointed {
+    // The fault, where it is one.
+    fn fault(self) -> FaultInfo
+        ensures { λ r. ⌜ ((f : FaultInfo) → self ≡ Pointed.Fault f → r ≡ f) ⌝ }
+    {
+        match self {
+            Pointed::Fault(f) => f,
+            Pointed::Next(_) => load_fault(Tree::Device),
+        }
+    }
 }
 
 // 01: "The context is 64 bytes in the order tc, iohgatp, ta, fsc, msiptp, mask, pattern, reserved".
@@ -286,4 +299,56 @@ fn device_misconfigured(c: DeviceContext) -> bool
     ensures { λ r. ⌜ r ≡ deviceMisconfigured c ⌝ }
 {
     control_reserved(c) | table_reserved(c) | first_wrong(c) | second_wrong(c)
+}
+
+// The context at an index of the lent bytes, whose first and last doublewords are known.
+fn words_at(bytes: &[u8], i: usize, tc: u64, reserved: u64) -> DeviceContext
+    requires { ⌜ i + 64 ≤ length (now bytes) ⌝ }
+    ensures { λ r. ⌜ r ≡ record { tc = tc; iohgatp = doubleword (now (bytes .entry)) (i + 8); ta = doubleword (now (bytes .entry)) (i + 16); fsc = doubleword (now (bytes .entry)) (i + 24); msiptp = doubleword (now (bytes .entry)) (i + 32); mask = doubleword (now (bytes .entry)) (i + 40); pattern = doubleword (now (bytes .entry)) (i + 48); reserved = reserved } ⌝ }
+{
+    DeviceContext {
+        tc: tc,
+        iohgatp: memory::doubleword_at(bytes, i + 8),
+        ta: memory::doubleword_at(bytes, i + 16),
+        fsc: memory::doubleword_at(bytes, i + 24),
+        msiptp: memory::doubleword_at(bytes, i + 32),
+        mask: memory::doubleword_at(bytes, i + 40),
+        pattern: memory::doubleword_at(bytes, i + 48),
+        reserved: reserved,
+    }
+}
+
+// The context at an address. Where its first and last doublewords can be read, so can all between.
+fn context_at(start: u64, window: &[u8], a: u64) -> DeviceFound
+    requires { ⌜ a < 2 ^ 60 ⌝ }
+    ensures { λ r. ⌜ (r ≡ run (memory start (now (window .entry))) (deviceContextAt a)) × Masked r ⌝ }
+{
+    let first = memory::load64(start, window, a);
+    let Load::Value(tc) = first else {
+        return DeviceFound::Fault(load_fault(Tree::Device));
+    };
+    if !bit(tc, 0) {
+        return DeviceFound::Fault(invalid(Tree::Device));
+    }
+    let last = memory::load64(start, window, a + 56);
+    let Load::Value(reserved) = last else {
+        return DeviceFound::Fault(load_fault(Tree::Device));
+    };
+    let c = words_at(window, (a - start) as usize, tc, reserved);
+    if device_misconfigured(c) {
+        return DeviceFound::Fault(misconfigured(Tree::Device));
+    }
+    DeviceFound::Context(c)
+}
+
+// The context of a device, from the directory's root page and number of levels.
+pub fn device_context(levels: u64, root: u64, d: u64, start: u64, window: &[u8]) -> DeviceFound
+    requires { ⌜ (root < 2 ^ 44) × (levels < 5) ⌝ }
+    ensures { λ r. ⌜ (r ≡ run (memory start (now (window .entry))) (deviceContextOf levels root d)) × Masked r ⌝ }
+{
+    let p = device_table(levels, root, d, start, window);
+    let Pointed::Next(table) = p else {
+        return DeviceFound::Fault(p.fault());
+    };
+    context_at(start, window, table * 4096 + 64 * device_index(d, 0))
 }
