@@ -1,4 +1,6 @@
 // What a device asks to do, and what a fault says.
+ghost use mathlib.Core.Path.{_≡_};
+ghost use Rattle.causes.specs.Causes.{accessFault, pageFault, guestPageFault};
 
 // 01: "read, write or read-for-execute".
 pub enum Access {
@@ -20,4 +22,34 @@ pub enum Stage {
 pub struct FaultInfo {
     pub cause: u64,
     pub stage: Stage,
+}
+
+pub fn access_fault(x: Access) -> u64
+    ensures { λ r. ⌜ r ≡ accessFault x ⌝ }
+{
+    match x {
+        Access::Execute => 1,
+        Access::Read => 5,
+        Access::Write => 7,
+    }
+}
+
+pub fn page_fault(x: Access) -> u64
+    ensures { λ r. ⌜ r ≡ pageFault x ⌝ }
+{
+    match x {
+        Access::Execute => 12,
+        Access::Read => 13,
+        Access::Write => 15,
+    }
+}
+
+pub fn guest_page_fault(x: Access) -> u64
+    ensures { λ r. ⌜ r ≡ guestPageFault x ⌝ }
+{
+    match x {
+        Access::Execute => 20,
+        Access::Read => 21,
+        Access::Write => 23,
+    }
 }

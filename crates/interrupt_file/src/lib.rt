@@ -1,4 +1,11 @@
 // Interrupt files in lent memory.
+ghost use mathlib.Core.Bool.{true};
+ghost use mathlib.Core.Path.{_≡_};
+ghost use Prim.Native.Nat.{_+_, _/_, _%_, _≤_, _<_};
+ghost use lib.ListN.{length, getD, set};
+ghost use Rattle.interrupt_file.specs.Bit.{bitAt, raised, lowered};
+ghost use Rattle.interrupt_file.specs.File.{isFile, pendingOf, afterStore, afterTake};
+ghost use Rattle.interrupt_file.specs.Report.{fileReport, refusedReport};
 
 // 01: "32 pairs of doublewords, pending then enable".
 pub struct Pair {
@@ -11,4 +18,109 @@ pub struct Report {
     pub refusal: u64,
     pub count: u64,
     pub pairs: [Pair; 32],
+}
+
+// Whether an address is that of a file that lies whole in the window; no sum here can wrap.
+pub fn is_file(start: u64, len: u64, file: u64) -> bool
+    ensures { λ r. ⌜ r ≡ isFile start len file ⌝ }
+{
+    if file % 512 != 0 {
+        return false;
+    }
+    if file < start {
+        return false;
+    }
+    if len < 512 {
+        return false;
+    }
+    if len - 512 < file - start {
+        return false;
+    }
+    true
+}
+
+// Sets bit k of a doubleword, which is bit k mod 8 of its byte k div 8.
+fn set_bit(part: &mut [u8], k: u64)
+    requires { ⌜ (length (now part) ≡ 8) × (k < 64) ⌝ }
+    ensures { λ _. ⌜ now (part .exit) ≡ set (now (part .entry)) (k / 8) (raised (k % 8) (getD (now (part .entry)) (k / 8) 0)) ⌝ }
+{
+    let i = (k / 8) as usize;
+    let b = part[i];
+    part[i] = b | 1u8 << (k % 8);
+}
+
+// Clears bit k of a doubleword, and gives what it was.
+fn clear_bit(part: &mut [u8], k: u64) -> u64
+    requires { ⌜ (length (now part) ≡ 8) × (k < 64) ⌝ }
+    ensures { λ r. ⌜ r ≡ bitAt (k % 8) (getD (now (part .entry)) (k / 8) 0) ⌝ }
+    ensures { λ _. ⌜ now (part .exit) ≡ set (now (part .entry)) (k / 8) (lowered (k % 8) (getD (now (part .entry)) (k / 8) 0)) ⌝ }
+{
+    let i = (k / 8) as usize;
+    let b = part[i];
+    part[i] = b & !(1u8 << (k % 8));
+    let was = (b >> (k % 8)) % 2;
+    was as u64
+}
+
+// Makes an identity of a file pending: the bit setter is lent the eight bytes of its doubleword and no others.
+pub fn store(start: u64, window: &mut [u8], file: u64, n: u64)
+    requires { ⌜ (isFile start (length (now window)) file ≡ true) × (n < 2048) ⌝ }
+    ensures { λ _. ⌜ now (window .exit) ≡ afterStore start (now (window .entry)) file n ⌝ }
+{
+    let at = (file - start + 16 * (n / 64)) as usize;
+    set_bit(&mut window[at..at + 8], n % 64);
+}
+
+// Makes an identity of a file pending no more, and gives 1 where it was, else 0.
+pub fn take(start: u64, window: &mut [u8], file: u64, n: u64) -> u64
+    requires { ⌜ (isFile start (length (now window)) file ≡ true) × (n < 2048) ⌝ }
+    ensures { λ r. ⌜ r ≡ pendingOf start (now (window .entry)) file n ⌝ }
+    ensures { λ _. ⌜ now (window .exit) ≡ afterTake start (now (window .entry)) file n ⌝ }
+{
+    let at = (file - start + 16 * (n / 64)) as usize;
+    clear_bit(&mut window[at..at + 8], n % 64)
+}
+
+// A report of the file at an index of the window.
+pub fn file_report(window: &[u8], at: usize) -> Report
+    requires { ⌜ at + 512 ≤ length (now window) ⌝ }
+    ensures { λ r. ⌜ r ≡ fileReport (now (window .entry)) at ⌝ }
+{
+    let none = Pair {
+        pending: 0,
+        enable: 0,
+    };
+    let mut pairs = [none; 32];
+    let mut count: u64 = 0;
+    let mut k: usize = 0;
+    while k < 32 {
+        let pending = memory::doubleword_at(window, at + 16 * k);
+        let enable = memory::doubleword_at(window, at + 16 * k + 8);
+        pairs[k] = Pair {
+            pending: pending,
+            enable: enable,
+        };
+        count += u64::count_ones(pending) as u64;
+        k += 1;
+    }
+    Report {
+        refusal: 0,
+        count: count,
+        pairs: pairs,
+    }
+}
+
+// The report of a file that is refused: its number, and nothing else.
+pub fn refused_report(number: u64) -> Report
+    ensures { λ r. ⌜ r ≡ refusedReport number ⌝ }
+{
+    let none = Pair {
+        pending: 0,
+        enable: 0,
+    };
+    Report {
+        refusal: number,
+        count: 0,
+        pairs: [none; 32],
+    }
 }

@@ -3,3 +3,4 @@ pub mod Answers
 pub mod Translate
 pub mod Request
 pub mod Files
+pub mod Bounds

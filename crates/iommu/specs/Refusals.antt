@@ -8,7 +8,7 @@ use Rattle.directory.specs.declared.ProcessId.{ProcessId}
 use Rattle.directory.specs.declared.ProcessId.the-variants.{Absent, Given}
 use Rattle.interrupt_file.specs.File.{isFile}
 use Rattle.iommu.specs.declared.Settings.{Settings}
-use Rattle.iommu.specs.declared.Request.{Request}
+use Rattle.iommu.specs.declared.DeviceRequest.{DeviceRequest}
 
 abbrev check : ℕ → Bool → Check
 check n b = record { number = n; bad = b }
@@ -35,7 +35,7 @@ abbrev pub badLength : ℕ → ℕ → Bool
 badLength address len = eqb len 0 || ltb 4096 (address % 4096 + len)
 
 -- the checks of a request before any table is read; 2007 comes last of all, in `finish`
-unfoldable pub requestRefusal : Settings → ℕ → Request → ℕ
+unfoldable pub requestRefusal : Settings → ℕ → DeviceRequest → ℕ
 requestRefusal s len q =
     firstBad
     (check 2001 (badWindow (s .start) len)

@@ -27,7 +27,7 @@ use Rattle.message.specs.Table.{messageOf}
 use Rattle.message.specs.declared.Message.{Message}
 use Rattle.message.specs.declared.Message.the-variants.{Redirect, Record}
 use Rattle.iommu.specs.declared.Settings.{Settings}
-use Rattle.iommu.specs.declared.Request.{Request}
+use Rattle.iommu.specs.declared.DeviceRequest.{DeviceRequest}
 use Rattle.iommu.specs.declared.Outcome.{Outcome}
 use Rattle.iommu.specs.declared.Outcome.the-variants.{Translated, Redirected, Recorded, Fault}
 
@@ -60,18 +60,18 @@ onFirst c x (Translation.Fault f) = done (Fault f)
 onFirst c x (To a) = guestOf c x a
 
 -- steps 17 to 20, with the first stage's table
-unfoldable pub stagesOf : DeviceContext → Request → PageTable → Walk Outcome
+unfoldable pub stagesOf : DeviceContext → DeviceRequest → PageTable → Walk Outcome
 stagesOf c q f =
     pick (f .on || not (bareOf (c .iohgatp)))
     (bind (firstStageOf f (secondTable (c .iohgatp)) (q .access) (not (q .supervisor)) (q .address)) (onFirst c (q .access)))
     (done (untranslated (q .access) (q .address)))
 
-abbrev pub onInfo : DeviceContext → Request → PageTableInfo → Walk Outcome
+abbrev pub onInfo : DeviceContext → DeviceRequest → PageTableInfo → Walk Outcome
 onInfo c q (PageTableInfo.Fault f) = done (Fault f)
 onInfo c q (Use t) = stagesOf c q t
 
 -- steps 7 to 20, with the device context
-abbrev pub onDevice : Request → DeviceFound → Walk Outcome
+abbrev pub onDevice : DeviceRequest → DeviceFound → Walk Outcome
 onDevice q (DeviceFound.Fault f) = done (Fault f)
 onDevice q (Context c) = bind (firstTableOf c (q .process) (q .supervisor) (q .access)) (onInfo c q)
 
@@ -80,14 +80,14 @@ abbrev pub levelsOf : ℕ → ℕ
 levelsOf mode = mode - 1
 
 -- steps 5 to 20, with a directory
-unfoldable pub directoryOf : Settings → Request → Walk Outcome
+unfoldable pub directoryOf : Settings → DeviceRequest → Walk Outcome
 directoryOf s q =
     pick (tooWide (levelsOf (s .mode)) (deviceIndex (q .device) 1) (deviceIndex (q .device) 2))
     (done (Fault disallowed))
     (bind (deviceContextOf (levelsOf (s .mode)) (s .root) (q .device)) (onDevice q))
 
 -- steps 1 to 20: "0 Off (cause 256), 1 Bare (address unchanged, no message recognition)"
-unfoldable pub translateOf : Settings → Request → Walk Outcome
+unfoldable pub translateOf : Settings → DeviceRequest → Walk Outcome
 translateOf s q =
     pick (eqb (s .mode) 0)
     (done (Fault (faultAt Directory 256)))

@@ -2,14 +2,14 @@
 use Prim.Native.Nat.{ℕ}
 use mathlib.Core.List.{List, [], _∷_}
 use Rattle.iommu.specs.declared.Settings.{Settings}
-use Rattle.iommu.specs.declared.Request.{Request}
+use Rattle.iommu.specs.declared.DeviceRequest.{DeviceRequest}
 use Rattle.iommu.specs.declared.Answer.{Answer}
 use Rattle.iommu.specs.Request.{requestOf, afterRequest}
 use Rattle.iommu.specs.Files.{takeOf, afterTakeOf}
 
 -- a call's arguments: mode, root, request and data; or file and identity
 pub data Op : Type 0 where
-  request : ℕ → ℕ → Request → ℕ → Op
+  request : ℕ → ℕ → DeviceRequest → ℕ → Op
   take : ℕ → ℕ → Op
 
 -- a call as its caller saw it

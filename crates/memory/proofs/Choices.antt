@@ -1,9 +1,9 @@
 -- How a proof goes through a choice: by the test's value, or by a flag that has it. Assumes nothing.
-use Prim.Native.Nat.{ℕ}
+use Prim.Native.Nat.{ℕ, _<_, _≤_}
 use mathlib.Core.Bool.{Bool, true, false}
 use mathlib.Core.Path.{_≡_, refl, sym, _∙_, subst}
-use borrow.Author.Tests.{eq-eqb, ne-eqb, eqb-true, eqb-false, lt-ltb, le-ltb, le-leb, lt-leb}
-use lib.Dec.{eqb}
+use borrow.Author.Tests.{eq-eqb, ne-eqb, eqb-true, eqb-false, lt-ltb, le-ltb, ltb-true, ltb-false, le-leb, lt-leb}
+use lib.Dec.{eqb, ltb}
 use Rattle.memory.specs.Choice.{pick}
 
 pub pick-same : {A : Type 0} (b : Bool) (x : A) → pick b x x ≡ x
@@ -35,3 +35,10 @@ eqb-same a b c d f g = go (eqb a b) refl
     go : (t : Bool) → eqb a b ≡ t → t ≡ eqb c d
     go true e = sym (eq-eqb c d (f (eqb-true a b e)))
     go false e = sym (ne-eqb c d (λ p. eqb-false a b e (g p)))
+
+pub ltb-same : (a b c d : ℕ) → (a < b → c < d) → (b ≤ a → d ≤ c) → ltb a b ≡ ltb c d
+ltb-same a b c d f g = go (ltb a b) refl
+  where
+    go : (t : Bool) → ltb a b ≡ t → t ≡ ltb c d
+    go true e = sym (lt-ltb c d (f (ltb-true a b e)))
+    go false e = sym (le-ltb c d (g (ltb-false a b e)))

@@ -1,5 +1,15 @@
 // Messages to virtual interrupt files: recognition, and the entries of the message table.
+use causes::Access;
 use causes::FaultInfo;
+use causes::Stage;
+use memory::Load;
+ghost use mathlib.Core.Path.{_≡_};
+ghost use Prim.Native.Nat.{_*_, _%_, _^_, _<_};
+ghost use lib.Dec.{eqb};
+ghost use Rattle.memory.specs.Window.{memory};
+ghost use Rattle.memory.specs.Walk.{run};
+ghost use Rattle.message.specs.Recognition.{recognised as recognisedOf, extract as extractOf};
+ghost use Rattle.message.specs.Table.{alignment, tableFault, permitted as permittedOf, translateReserved, recordReserved, destinationOf, onTranslate, onNotice, onEntry, messageOf};
 
 // Where an entry in MRIF mode has a message recorded, and the notice that it asks for: a number to be written at an address.
 pub struct Destination {
@@ -13,4 +23,163 @@ pub enum Message {
     Redirect(u64),
     Record(Destination),
     Fault(FaultInfo),
+}
+
+// Whether a guest address is one of a virtual interrupt file: its page number has the pattern in each bit that the mask leaves out.
+pub fn recognised(mask: u64, pattern: u64, a: u64) -> bool
+    ensures { λ r. ⌜ r ≡ recognisedOf mask pattern a ⌝ }
+{
+    let page = a / 4096;
+    page - (page & mask) == pattern - (pattern & mask)
+}
+
+// The bits of x that the mask picks, packed in their order.
+pub fn extract(x: u64, mask: u64) -> u64
+    ensures { λ r. ⌜ (r ≡ extractOf x mask) × (r < 2 ^ 52) ⌝ }
+{
+    let mut bits = x;
+    let mut rest = mask;
+    let mut packed: u64 = 0;
+    let mut place: u64 = 1;
+    let mut left: u64 = 52;
+    while 0 < left {
+        if rest == 0 {
+            return packed;
+        }
+        left -= 1;
+        if rest % 2 == 1 {
+            packed += place * (bits % 2);
+            place *= 2;
+        }
+        bits /= 2;
+        rest /= 2;
+    }
+    packed
+}
+
+// Whether a table at a page is aligned for as many files as the mask can number.
+fn aligned(page: u64, mask: u64) -> bool
+    requires { ⌜ (page < 2 ^ 44) × (mask < 2 ^ 52) ⌝ }
+    ensures { λ r. ⌜ r ≡ eqb (page * 4096 % alignment mask) 0 ⌝ }
+{
+    let size = 16u64 << u64::count_ones(mask);
+    if size < 4096 {
+        return true;
+    }
+    page * 4096 % size == 0
+}
+
+fn table_fault(cause: u64) -> Message
+    ensures { λ r. ⌜ r ≡ tableFault cause ⌝ }
+{
+    Message::Fault(FaultInfo {
+        cause: cause,
+        stage: Stage::MessageTable,
+    })
+}
+
+// An entry permits reads and writes.
+fn permitted(x: Access, m: Message) -> Message
+    ensures { λ r. ⌜ r ≡ permittedOf x m ⌝ }
+{
+    match x {
+        Access::Execute => table_fault(1),
+        Access::Read => m,
+        Access::Write => m,
+    }
+}
+
+fn translate_reserved(e: u64) -> bool
+    ensures { λ r. ⌜ r ≡ translateReserved e ⌝ }
+{
+    if e / 8 % 128 != 0 {
+        return true;
+    }
+    e / 18014398509481984 % 512 != 0
+}
+
+fn record_reserved(e: u64, n: u64) -> bool
+    ensures { λ r. ⌜ r ≡ recordReserved e n ⌝ }
+{
+    if e / 8 % 16 != 0 {
+        return true;
+    }
+    if e / 18014398509481984 % 512 != 0 {
+        return true;
+    }
+    if n / 18014398509481984 % 64 != 0 {
+        return true;
+    }
+    n / 2305843009213693952 % 8 != 0
+}
+
+fn destination_of(e: u64, n: u64) -> Destination
+    ensures { λ r. ⌜ r ≡ destinationOf e n ⌝ }
+{
+    Destination {
+        file: e / 128 % 140737488355328 * 512,
+        notice: n / 1024 % 17592186044416 * 4096,
+        number: n % 1024 + 1024 * (n / 1152921504606846976 % 2),
+    }
+}
+
+// A redirected message keeps its place in the page.
+fn on_translate(x: Access, a: u64, e: u64) -> Message
+    ensures { λ r. ⌜ r ≡ onTranslate x a e ⌝ }
+{
+    if translate_reserved(e) {
+        return table_fault(263);
+    }
+    permitted(
+        x,
+        Message::Redirect(e / 1024 % 17592186044416 * 4096 + a % 4096),
+    )
+}
+
+fn on_notice(x: Access, e: u64, n: u64) -> Message
+    ensures { λ r. ⌜ r ≡ onNotice x e n ⌝ }
+{
+    if record_reserved(e, n) {
+        return table_fault(263);
+    }
+    permitted(x, Message::Record(destination_of(e, n)))
+}
+
+// What an entry says; the second doubleword is read in MRIF mode alone.
+fn on_entry(x: Access, a: u64, start: u64, window: &[u8], at: u64, e: u64) -> Message
+    requires { ⌜ at < 2 ^ 57 ⌝ }
+    ensures { λ r. ⌜ r ≡ run (memory start (now (window .entry))) (onEntry x a at e) ⌝ }
+{
+    if e % 2 != 1 {
+        return table_fault(262);
+    }
+    if e / 9223372036854775808 % 2 == 1 {
+        return table_fault(263);
+    }
+    let mode = e / 2 % 4;
+    if mode == 3 {
+        return on_translate(x, a, e);
+    }
+    if mode != 1 {
+        return table_fault(263);
+    }
+    let Load::Value(n) = memory::load64(start, window, at + 8) else {
+        return table_fault(261);
+    };
+    on_notice(x, e, n)
+}
+
+// What the table at a page says of a message to a guest address.
+pub fn message_of(page: u64, mask: u64, x: Access, start: u64, window: &[u8], a: u64) -> Message
+    requires { ⌜ (page < 2 ^ 44) × (mask < 2 ^ 52) ⌝ }
+    ensures { λ r. ⌜ r ≡ run (memory start (now (window .entry))) (messageOf page mask x a) ⌝ }
+{
+    if !aligned(page, mask) {
+        return table_fault(263);
+    }
+    let at = page * 4096 + 16 * extract(a / 4096, mask);
+    let Load::Value(e) = memory::load64(start, window, at) else {
+        return table_fault(261);
+    };
+    on_entry(x, a, start, window, at, e)
 }

@@ -3,3 +3,4 @@ pub mod Purpose
 pub mod Entry
 pub mod Levels
 pub mod Stages
+pub mod Within

@@ -16,14 +16,14 @@ askedOf FirstStageEntry x = Read
 askedOf ProcessEntry x = Read
 
 -- an entry that faults: "Causes follow the original access"; "second for any fault of a guest-address walk, also one made inside another walk"
-unfoldable pub pageFaultOf : Purpose → Access → FaultInfo
+abbrev pub pageFaultOf : Purpose → Access → FaultInfo
 pageFaultOf FirstStage x = faultAt First (pageFault x)
 pageFaultOf SecondStage x = faultAt Second (guestPageFault x)
 pageFaultOf FirstStageEntry x = faultAt Second (guestPageFault x)
 pageFaultOf ProcessEntry x = faultAt Second (guestPageFault x)
 
 -- an entry that can't be read. 003: "An access fault in the second stage is reported as PDT entry load access fault (cause = 265)"
-unfoldable pub accessFaultOf : Purpose → Access → FaultInfo
+abbrev pub accessFaultOf : Purpose → Access → FaultInfo
 accessFaultOf FirstStage x = faultAt First (accessFault x)
 accessFaultOf SecondStage x = faultAt Second (accessFault x)
 accessFaultOf FirstStageEntry x = faultAt Second (accessFault x)

@@ -3,7 +3,6 @@ use Prim.Native.Nat.{ℕ, _+_, _-_, _*_, _/_, _%_, _^_}
 use mathlib.Core.Bool.{Bool, true, false, _||_}
 use lib.Dec.{eqb, ltb}
 use Rattle.memory.specs.Choice.{pick}
-use Rattle.memory.specs.Bits.{bits}
 use Rattle.paging.specs.declared.Scheme.{Scheme}
 use Rattle.paging.specs.declared.Scheme.the-variants.{Sv39, Sv39x4}
 
@@ -26,9 +25,9 @@ abbrev pub signedOf : Scheme → Bool
 signedOf Sv39 = true
 signedOf Sv39x4 = false
 
--- "Sv39: address bits 63:39 must equal bit 38": the bits from 38 on are all 0 or all 1
+-- "Sv39: address bits 63:39 must equal bit 38": of a 64-bit address the bits from 38 on are all 0 or all 1
 abbrev pub signExtended : ℕ → ℕ → Bool
-signExtended width a = eqb (bits a 63 (width - 1)) 0 || eqb (bits a 63 (width - 1)) (2 ^ (65 - width) - 1)
+signExtended width a = eqb (a / 2 ^ (width - 1)) 0 || eqb (a / 2 ^ (width - 1)) (2 ^ (65 - width) - 1)
 
 -- "Sv39x4: address below 2^41"
 unfoldable pub legalOf : Scheme → ℕ → Bool

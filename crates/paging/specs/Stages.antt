@@ -24,9 +24,14 @@ guestLookup p x a = record { address = a; access = x; purpose = p; user = true }
 unfoldable pub secondStageOf : PageTable → Purpose → Access → ℕ → Walk Translation
 secondStageOf g p x a = pick (g .on) (walkOf (g .scheme) (guestLookup p x a) direct (g .root)) (done (To a))
 
--- the device's address, by the first stage; unchanged where that is Bare. "First-stage entries lie at guest addresses when the second stage is on"
+-- "First-stage entries lie at guest addresses when the second stage is on"
+abbrev pub entryReach : PageTable → Lookup → ℕ → Walk Translation
+entryReach g q a = secondStageOf g FirstStageEntry (q .access) a
+
+abbrev pub deviceLookup : Access → Bool → ℕ → Lookup
+deviceLookup x user a = record { address = a; access = x; purpose = FirstStage; user = user }
+
+-- the device's address, by the first stage; unchanged where that is Bare
 unfoldable pub firstStageOf : PageTable → PageTable → Access → Bool → ℕ → Walk Translation
 firstStageOf f g x user a =
-    pick (f .on)
-    (walkOf (f .scheme) (record { address = a; access = x; purpose = FirstStage; user = user }) (secondStageOf g FirstStageEntry x) (f .root))
-    (done (To a))
+    pick (f .on) (walkOf (f .scheme) (deviceLookup x user a) (entryReach g (deviceLookup x user a)) (f .root)) (done (To a))

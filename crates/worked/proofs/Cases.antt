@@ -3,7 +3,6 @@ use mathlib.Core.Path.{refl}
 use lib.Count.{onesIn, ones}
 use Rattle.memory.specs.Window.{memory}
 use Rattle.paging.specs.Scheme.{legalOf, indexOf}
-use Rattle.paging.specs.Purpose.{pageFaultOf, accessFaultOf}
 use Rattle.paging.specs.Entry.{entryOf, allows, mappedBy}
 use Rattle.paging.specs.Levels.{onLoad, levelOf, levels, walkOf}
 use Rattle.paging.specs.Stages.{secondStageOf, firstStageOf}
@@ -22,7 +21,7 @@ use Rattle.worked.specs.Table.{Agrees, table}
 use Rattle.worked.specs.Limits.{limits}
 
 pub cases : Agrees table
-unfolding onesIn ones memory legalOf indexOf pageFaultOf accessFaultOf entryOf allows mappedBy onLoad levelOf levels walkOf secondStageOf firstStageOf pointerOf pointers tooWide deviceMisconfigured deviceContextAt deviceContextOf processMisconfigured processContextAt processContextOf processTable firstTableOf recognised packed extract translateReserved recordReserved onNotice onTranslate onEntry messageOf bitAt raised lowered isFile pendingOf afterStore afterTake badWindow requestRefusal untranslated isMessage guestOf stagesOf directoryOf translateOf storable finish requestOf afterRequest window settings table
+unfolding onesIn ones memory legalOf indexOf entryOf allows mappedBy onLoad levelOf levels walkOf secondStageOf firstStageOf pointerOf pointers tooWide deviceMisconfigured deviceContextAt deviceContextOf processMisconfigured processContextAt processContextOf processTable firstTableOf recognised packed extract translateReserved recordReserved onNotice onTranslate onEntry messageOf bitAt raised lowered isFile pendingOf afterStore afterTake badWindow requestRefusal untranslated isMessage guestOf stagesOf directoryOf translateOf storable finish requestOf afterRequest window settings table
 cases = (refl, (refl, (refl, (refl, (refl, (refl, (refl, (refl, (refl, (refl, (refl, (refl, (refl, (refl, tt))))))))))))))
 
 pub limits-hold : Agrees limits

@@ -6,7 +6,7 @@ use lib.ListN.{replicate}
 use Rattle.causes.specs.declared.Access.{Access}
 use Rattle.directory.specs.declared.ProcessId.{ProcessId}
 use Rattle.iommu.specs.declared.Settings.{Settings}
-use Rattle.iommu.specs.declared.Request.{Request}
+use Rattle.iommu.specs.declared.DeviceRequest.{DeviceRequest}
 
 -- the eight bytes of a doubleword, lowest first
 eight : ℕ → List ℕ
@@ -38,6 +38,6 @@ unfoldable pub settings : ℕ → Settings
 unfolding start
 settings mode = record { start = start; mode = mode; root = 0x40000 }
 
-abbrev pub ask : ℕ → ProcessId → Access → ℕ → Request
+abbrev pub ask : ℕ → ProcessId → Access → ℕ → DeviceRequest
 ask device process access address =
     record { device = device; process = process; supervisor = false; access = access; address = address; length = 4 }

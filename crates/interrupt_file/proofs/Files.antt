@@ -1,0 +1,95 @@
+-- A file's place in the window, and one bit of it changed by way of its doubleword. Assumes nothing.
+use Prim.Native.Nat.{ℕ, _+_, _-_, _*_, _/_, _%_, _≤_, _<_}
+use mathlib.Core.Bool.{Bool, true, false, _&&_}
+use mathlib.Core.List.{List}
+use mathlib.Core.Path.{_≡_, refl, sym, ap, _∙_}
+use native.Mathlib.Omega.{arith}
+use borrow.Author.Tests.{eqb-true, leb-true, eq-eqb, le-leb}
+use borrow.Rule.Slice.PartMut.{midOf, putMid, set-mid-at}
+use lib.ListN.{length, getD, set, length-take, length-drop}
+use lib.Seq.{getD-drop, getD-take}
+use Rattle.interrupt_file.specs.Bit.{bitAt, raised, lowered}
+use Rattle.interrupt_file.specs.File.{isFile, placeOf, pendingOf, afterStore, afterTake}
+
+-- what `isFile` says
+pub record FileAt (start len file : ℕ) : Type 0 where
+  pub aligned : file % 512 ≡ 0
+  pub after : start ≤ file
+  pub within : file + 512 ≤ start + len
+
+and-true : (a b : Bool) → a && b ≡ true → (a ≡ true) × (b ≡ true)
+and-true true b e = (refl, e)
+and-true false b e = (e, cc)
+
+-- a test that can't hold is false
+not-so : (b : Bool) → (b ≡ true → ⊥) → false ≡ b
+not-so true h = absurd (h refl)
+not-so false h = refl
+
+module _ {start len file : ℕ} where
+  pub file-at : isFile start len file ≡ true → FileAt start len file
+  unfolding isFile
+  file-at e =
+      let p = and-true _ _ e in
+      let q = and-true _ _ (p .1) in
+      record { aligned = eqb-true _ _ (p .0); after = leb-true _ _ (q .0); within = leb-true _ _ (q .1) }
+
+  pub is-file : FileAt start len file → true ≡ isFile start len file
+  unfolding isFile
+  is-file f = simp (eq-eqb _ _ (f .aligned), le-leb _ _ (f .after), le-leb _ _ (f .within))
+
+  pub no-file : (FileAt start len file → ⊥) → false ≡ isFile start len file
+  no-file h = not-so _ (λ e. h (file-at e))
+
+-- a part of a slice, lent and back with one element changed, is the slice with that element changed
+mid-set : (a n j : ℕ) (f : ℕ → ℕ) (xs ys : List ℕ) → j < n → a + n ≤ length xs
+    → ys ≡ set (midOf a n xs) j (f (getD (midOf a n xs) j 0)) → putMid a n xs ys ≡ set xs (a + j) (f (getD xs (a + j) 0))
+mid-set a n j f xs ys lj la e =
+    let lm : j < length (midOf a n xs) = simp (length-take, length-drop) (omega arith) in
+    rw (e, set-mid-at a n j xs _ lm, getD-take, getD-drop)
+
+-- the index of an identity's doubleword, which lies in the file, and its eight bytes as they are lent
+abbrev pub indexOf : ℕ → ℕ → ℕ → ℕ
+indexOf start file n = file - start + 16 * (n / 64)
+
+pub dword-within : (start len file n : ℕ) → isFile start len file ≡ true → n < 2048 → indexOf start file n + 8 ≤ len
+dword-within start len file n e l = let f = file-at e in omega arith
+
+abbrev lent : ℕ → List ℕ → ℕ → ℕ → List ℕ
+lent start xs file n = midOf (indexOf start file n) (indexOf start file n + 8 - indexOf start file n) xs
+
+abbrev back : ℕ → List ℕ → ℕ → ℕ → List ℕ → List ℕ
+back start xs file n ys = putMid (indexOf start file n) (indexOf start file n + 8 - indexOf start file n) xs ys
+
+module _ (start : ℕ) (xs : List ℕ) (file n : ℕ) (e : isFile start (length xs) file ≡ true) (l : n < 2048) where
+  -- the identity's byte in the window, and its bit of that byte
+  byte-is : indexOf start file n + n % 64 / 8 ≡ placeOf file n - start
+  byte-is = let f = file-at e in omega arith
+
+  bit-is : n % 64 % 8 ≡ n % 8
+  bit-is = omega arith
+
+  changed : (f : ℕ → ℕ → ℕ) (ys : List ℕ) → ys ≡ set (lent start xs file n) (n % 64 / 8) (f (n % 64 % 8) (getD (lent start xs file n) (n % 64 / 8) 0))
+      → back start xs file n ys ≡ set xs (placeOf file n - start) (f (n % 8) (getD xs (placeOf file n - start) 0))
+  changed f ys q =
+      let i = indexOf start file n in
+      mid-set i (i + 8 - i) (n % 64 / 8) (f (n % 64 % 8)) xs ys (omega arith) (omega (arith, dword-within start (length xs) file n e l)) q
+      ∙ ap (λ i. set xs i (f (n % 64 % 8) (getD xs i 0))) byte-is
+      ∙ ap (λ k. set xs (placeOf file n - start) (f k (getD xs (placeOf file n - start) 0))) bit-is
+
+  pub stored : (ys : List ℕ) → ys ≡ set (lent start xs file n) (n % 64 / 8) (raised (n % 64 % 8) (getD (lent start xs file n) (n % 64 / 8) 0))
+      → back start xs file n ys ≡ afterStore start xs file n
+  unfolding afterStore
+  stored ys q = changed raised ys q
+
+  pub taken : (ys : List ℕ) → ys ≡ set (lent start xs file n) (n % 64 / 8) (lowered (n % 64 % 8) (getD (lent start xs file n) (n % 64 / 8) 0))
+      → back start xs file n ys ≡ afterTake start xs file n
+  unfolding afterTake
+  taken ys q = changed lowered ys q
+
+  pub was : (r : ℕ) → r ≡ bitAt (n % 64 % 8) (getD (lent start xs file n) (n % 64 / 8) 0) → r ≡ pendingOf start xs file n
+  unfolding pendingOf
+  was r q =
+      let i = indexOf start file n in
+      let lj : n % 64 / 8 < i + 8 - i = omega arith in
+      q ∙ rw (getD-take {A = ℕ} (i + 8 - i) _ (n % 64 / 8) 0 lj, getD-drop, byte-is, bit-is)

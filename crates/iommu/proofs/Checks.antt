@@ -1,0 +1,113 @@
+-- The checks before the walk, by the tests that the code makes. Assumes nothing.
+use Prim.Native.Nat.{ℕ, _+_, _-_, _*_, _/_, _%_, _^_, _<_, _≤_}
+use mathlib.Core.Bool.{Bool, true, false, _&&_, _||_, not}
+use mathlib.Core.Path.{_≡_, refl, sym, ap, _∙_}
+use native.Mathlib.Omega.{arith}
+use lib.Dec.{eqb, leb, ltb}
+use borrow.Author.Tests.{eq-eqb, ne-eqb, lt-ltb, le-ltb, ltb-true, ltb-false, le-leb, lt-leb, leb-true, leb-false}
+use Rattle.memory.proofs.Choices.{ltb-same}
+use Rattle.directory.specs.declared.ProcessId.{ProcessId}
+use Rattle.directory.specs.declared.ProcessId.the-variants.{Absent, Given}
+use Rattle.iommu.specs.declared.Settings.{Settings}
+use Rattle.iommu.specs.declared.DeviceRequest.{DeviceRequest}
+use Rattle.iommu.specs.declared.Answer.{Answer}
+use Rattle.iommu.specs.declared.Numbers.{Numbers}
+use Rattle.iommu.specs.Answers.{numbersOf}
+use Rattle.iommu.specs.Refusals.{badWindow, badDirectory, badProcess, absent, badLength, requestRefusal}
+use Rattle.iommu.specs.Bounds.{Accepted}
+
+-- 2001
+module _ (start len : ℕ) where
+  pub window-off : (start % 4096 ≡ 0 → ⊥) → true ≡ badWindow start len
+  unfolding badWindow
+  window-off h = simp (ne-eqb (start % 4096) 0 h)
+
+  module _ (a : start % 4096 ≡ 0) where
+    pub length-off : (len % 4096 ≡ 0 → ⊥) → true ≡ badWindow start len
+    unfolding badWindow
+    length-off h = simp (a, ne-eqb (len % 4096) 0 h)
+
+    module _ (b : len % 4096 ≡ 0) where
+      pub window-high : 72057594037927936 < start → true ≡ badWindow start len
+      unfolding badWindow
+      window-high h = simp (a, b, lt-ltb (2 ^ 56) (start + len) (omega arith))
+
+      pub window-end : start ≤ 72057594037927936 → ltb (72057594037927936 - start) len ≡ badWindow start len
+      unfolding badWindow
+      window-end h = simp (a, b) (ltb-same (72057594037927936 - start) len (2 ^ 56) (start + len) (λ x. omega arith) (λ x. omega arith))
+
+pub ruleset window-ways = (window-off, length-off, window-high, window-end)
+
+-- 2002, 2004 and 2006
+pub mode-off : (mode root : ℕ) → 4 < mode → true ≡ badDirectory mode root
+mode-off mode root h = simp (lt-ltb 4 mode h)
+
+pub root-off : (mode root : ℕ) → mode ≤ 4 → leb 17592186044416 root ≡ badDirectory mode root
+root-off mode root h = simp (le-ltb 4 mode h)
+
+pub process-is : (p : ProcessId) (n : ℕ) → p ≡ Given n → leb 1048576 n ≡ badProcess p
+process-is p n e = sym (ap badProcess e)
+
+pub length-none : (address len : ℕ) → len ≡ 0 → true ≡ badLength address len
+length-none address len h = simp h
+
+pub length-some : (address len : ℕ) → (len ≡ 0 → ⊥) → ltb (4096 - address % 4096) len ≡ badLength address len
+length-some address len h =
+    simp (ne-eqb len 0 h) (ltb-same (4096 - address % 4096) len 4096 (address % 4096 + len) (λ x. omega arith) (λ x. omega arith))
+
+pub ruleset small-ways = (mode-off, root-off, process-is, length-none, length-some)
+
+-- a request's checks in order: `bN` is the flag of check N
+module _ (s : Settings) (len : ℕ) (q : DeviceRequest) (b1 : Bool) (h1 : b1 ≡ badWindow (s .start) len) where
+  pub refused-2001 : b1 ≡ true → 2001 ≡ requestRefusal s len q
+  unfolding requestRefusal
+  refused-2001 t = simp (← h1, t)
+
+  module _ (o1 : b1 ≡ false) (b2 : Bool) (h2 : b2 ≡ badDirectory (s .mode) (s .root)) where
+    pub refused-2002 : b2 ≡ true → 2002 ≡ requestRefusal s len q
+    unfolding requestRefusal
+    refused-2002 t = simp (← h1, o1, ← h2, t)
+
+    module _ (o2 : b2 ≡ false) where
+      pub refused-2003 : 16777216 ≤ q .device → 2003 ≡ requestRefusal s len q
+      unfolding requestRefusal
+      refused-2003 h = simp (← h1, o1, ← h2, o2, le-leb 16777216 (q .device) h)
+
+      module _ (o3 : q .device < 16777216) (b4 : Bool) (h4 : b4 ≡ badProcess (q .process)) where
+        pub refused-2004 : b4 ≡ true → 2004 ≡ requestRefusal s len q
+        unfolding requestRefusal
+        refused-2004 t = simp (← h1, o1, ← h2, o2, lt-leb 16777216 (q .device) o3, ← h4, t)
+
+        module _ (o4 : b4 ≡ false) (b5 : Bool) (h5 : b5 ≡ (q .supervisor && absent (q .process))) where
+          pub refused-2005 : b5 ≡ true → 2005 ≡ requestRefusal s len q
+          unfolding requestRefusal
+          refused-2005 t = simp (← h1, o1, ← h2, o2, lt-leb 16777216 (q .device) o3, ← h4, o4, ← h5, t)
+
+          module _ (o5 : b5 ≡ false) (b6 : Bool) (h6 : b6 ≡ badLength (q .address) (q .length)) where
+            pub refused-2006 : b6 ≡ true → 2006 ≡ requestRefusal s len q
+            unfolding requestRefusal
+            refused-2006 t = simp (← h1, o1, ← h2, o2, lt-leb 16777216 (q .device) o3, ← h4, o4, ← h5, o5, ← h6, t)
+
+            pub not-refused : b6 ≡ false → 0 ≡ requestRefusal s len q
+            unfolding requestRefusal
+            not-refused o6 = simp (← h1, o1, ← h2, o2, lt-leb 16777216 (q .device) o3, ← h4, o4, ← h5, o5, ← h6, o6)
+
+accepted : (s : Settings) (b : Bool) → b ≡ badDirectory (s .mode) (s .root) → b ≡ false → (s .mode < 5) × (s .root < 2 ^ 44)
+accepted s b h o = go (ltb 4 (s .mode)) (leb (2 ^ 44) (s .root)) refl refl (sym h ∙ o)
+  where
+    go : (m r : Bool) → ltb 4 (s .mode) ≡ m → leb (2 ^ 44) (s .root) ≡ r → (m || r) ≡ false → (s .mode < 5) × (s .root < 2 ^ 44)
+    go true r e f z = let c : _≡_ {A = ℕ} 0 1 = cc in omega arith
+    go false true e f z = let c : _≡_ {A = ℕ} 0 1 = cc in omega arith
+    go false false e f z = (omega (arith, ltb-false 4 (s .mode) e), omega (arith, leb-false (2 ^ 44) (s .root) f))
+
+pub accepted-mode : (s : Settings) (b : Bool) → b ≡ badDirectory (s .mode) (s .root) → b ≡ false → s .mode < 5
+accepted-mode s b h o = accepted s b h o .0
+
+pub accepted-root : (s : Settings) (b : Bool) → b ≡ badDirectory (s .mode) (s .root) → b ≡ false → s .root < 2 ^ 44
+accepted-root s b h o = accepted s b h o .1
+
+pub ruleset request-checks = (refused-2001, refused-2002, refused-2003, refused-2004, refused-2005, refused-2006, not-refused, accepted-mode, accepted-root)
+
+-- an answer's numbers, by its case
+pub numbers-are : (a b : Answer) (n : Numbers) → a ≡ b → n ≡ numbersOf b → n ≡ numbersOf a
+numbers-are a b n e h = h ∙ sym (ap numbersOf e)

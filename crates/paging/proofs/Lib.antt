@@ -1,0 +1,3 @@
+pub mod Schemes
+pub mod Entries
+pub mod Turns

@@ -1,0 +1,208 @@
+//! Coverage: runs generated lists, checks what every call may change and the ledger of each list,
+//! and counts the marks.
+
+use std::collections::BTreeMap;
+
+use crate::generate::{list, Call, List};
+use crate::iommu::{report_observed, request_observed, take_observed};
+use crate::ledger::Ledger;
+use crate::mark::{Mark, See, CAUSES};
+use crate::types::{Answer, Settings};
+
+/// The counts of a run.
+#[derive(Clone, Debug, Default)]
+pub struct Coverage {
+    pub lists: u64,
+    pub calls: u64,
+    pub answers: [u64; 7],
+    pub marks: BTreeMap<Mark, u64>,
+    pub failures: Vec<String>,
+}
+
+/// Runs one call on a window.
+pub fn run_call(start: u64, window: &mut [u8], call: &Call, see: See) -> Answer {
+    match call {
+        Call::Request {
+            mode,
+            root,
+            request,
+            data,
+        } => {
+            let settings = Settings {
+                start,
+                mode: *mode,
+                root: *root,
+            };
+            request_observed(&settings, window, request, *data, see)
+        }
+        Call::Take { file, identity } => take_observed(start, window, *file, *identity, see),
+    }
+}
+
+impl Coverage {
+    /// Runs lists from index 0 on until so many calls are made.
+    pub fn run(seed: u64, calls: u64) -> Coverage {
+        let mut coverage = Coverage::default();
+        let mut index = 0;
+        while coverage.calls < calls {
+            let mut list = list(seed, index);
+            list.calls.truncate((calls - coverage.calls) as usize);
+            coverage.run_list(&list, index);
+            index += 1;
+        }
+        coverage
+    }
+
+    /// Runs one list, with its ledger.
+    fn run_list(&mut self, list: &List, index: u64) {
+        let mut ledger = Ledger::new(list.start, &list.window);
+        let mut window = list.window.clone();
+        let mut before = list.window.clone();
+        for (number, call) in list.calls.iter().enumerate() {
+            let marks = &mut self.marks;
+            let mut see = |mark| *marks.entry(mark).or_insert(0) += 1;
+            let answer = run_call(list.start, &mut window, call, &mut see);
+            self.calls += 1;
+            self.answers[answer.numbers()[0] as usize] += 1;
+            if before != window {
+                let verdict = check_change(list.start, &before, &window, call, answer);
+                self.check(index, number, verdict);
+                before.copy_from_slice(&window);
+            }
+            let verdict = ledger.feed(call, answer);
+            self.check(index, number, verdict);
+        }
+        self.check(index, list.calls.len(), ledger.close(&window));
+        self.check_reports(list, index, &window, &ledger);
+        self.lists += 1;
+    }
+
+    /// Keeps a failure, with the list's index and the call's number.
+    fn check(&mut self, index: u64, number: usize, verdict: Result<(), String>) {
+        if let Err(reason) = verdict {
+            self.failures
+                .push(format!("list {index}, call {number}: {reason}"));
+        }
+    }
+
+    /// A report of each file that a take of the list named: its count is that of the ledger.
+    fn check_reports(&mut self, list: &List, index: u64, window: &[u8], ledger: &Ledger) {
+        for (number, call) in list.calls.iter().enumerate() {
+            let Call::Take { file, .. } = call else {
+                continue;
+            };
+            let marks = &mut self.marks;
+            let mut see = |mark| *marks.entry(mark).or_insert(0) += 1;
+            let report = report_observed(list.start, window, *file, &mut see);
+            let zero = report.pairs.iter().all(|p| p.pending == 0 && p.enable == 0);
+            let fits = match report.refusal {
+                0 => report.count == ledger.waiting(*file),
+                _ => report.count == 0 && zero,
+            };
+            if !fits {
+                self.check(index, number, Err(format!("report of {file}")));
+            }
+        }
+    }
+
+    /// The marks that can arise and never did.
+    pub fn at_zero(&self) -> Vec<Mark> {
+        let seen = |mark: &Mark| self.marks.contains_key(mark);
+        Mark::all().into_iter().filter(|mark| !seen(mark)).collect()
+    }
+
+    /// The marks that arose and aren't in the table.
+    pub fn unexpected(&self) -> Vec<Mark> {
+        let all = Mark::all();
+        let known = |mark: &&Mark| all.contains(mark);
+        self.marks
+            .keys()
+            .filter(|mark| !known(mark))
+            .copied()
+            .collect()
+    }
+
+    /// Prints the whole table.
+    pub fn print(&self) {
+        let mut group = "";
+        for mark in Mark::all() {
+            if matches!(mark, Mark::Cause(..)) {
+                continue;
+            }
+            if mark.group() != group {
+                group = mark.group();
+                println!("\n{group}");
+            }
+            let count = self.marks.get(&mark).copied().unwrap_or(0);
+            println!("  {count:>9}  {}", mark.name());
+        }
+        self.print_causes();
+        println!("\nanswers");
+        let names = [
+            "translated",
+            "redirected",
+            "stored",
+            "discarded",
+            "fault",
+            "refused",
+            "take made",
+        ];
+        for (number, name) in names.iter().enumerate() {
+            println!("  {:>9}  {number} {name}", self.answers[number]);
+        }
+    }
+
+    /// The pairs of cause and stage as a table.
+    fn print_causes(&self) {
+        println!("\ncause by stage");
+        for (stage, causes) in CAUSES {
+            print!("  {:<18}", stage.name());
+            for cause in causes {
+                let mark = Mark::Cause(stage, *cause);
+                let count = self.marks.get(&mark).copied().unwrap_or(0);
+                print!(" {cause}: {count} ");
+            }
+            println!();
+        }
+    }
+}
+
+/// Looks at a window that changed. 01, What a request holds: only answers 2 and 6 may change it, and
+/// they at most the one byte of their file that holds the identity's bit.
+fn check_change(
+    start: u64,
+    before: &[u8],
+    after: &[u8],
+    call: &Call,
+    answer: Answer,
+) -> Result<(), String> {
+    let (file, identity) = match (call, answer) {
+        (Call::Request { request, data, .. }, Answer::Stored { file, .. }) => {
+            (file, crate::message::identity_of(request.address, *data))
+        }
+        (Call::Take { file, identity }, Answer::Taken(true)) => (*file, *identity),
+        _ => return Err(format!("answer {:?} changed the window", answer.numbers())),
+    };
+    let byte = file - start + identity / 64 * 16 + identity % 64 / 8;
+    let changed = (0..before.len()).filter(|place| before[*place] != after[*place]);
+    for place in changed {
+        let difference = before[place] ^ after[place];
+        if place as u64 != byte || difference != 1 << (identity % 8) {
+            return Err(format!("byte {place} changed"));
+        }
+    }
+    Ok(())
+}
+
+#[cfg(test)]
+mod tests {
+    use super::Coverage;
+
+    #[test]
+    fn generated_lists_keep_the_ledger() {
+        let coverage = Coverage::run(11, 20_000);
+        assert!(coverage.failures.is_empty(), "{:?}", coverage.failures);
+        assert!(coverage.unexpected().is_empty());
+        assert_eq!(coverage.calls, 20_000);
+    }
+}

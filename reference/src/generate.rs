@@ -1,0 +1,267 @@
+//! The generator: lists of calls over one window, a function of the seed and the index alone.
+
+use crate::damage::damage;
+use crate::random::Random;
+use crate::types::{Access, Request};
+use crate::world::{Target, World};
+
+/// One call of a list.
+#[derive(Clone, Copy, Debug, PartialEq, Eq)]
+pub enum Call {
+    Request {
+        mode: u64,
+        root: u64,
+        request: Request,
+        data: u32,
+    },
+    Take {
+        file: u64,
+        identity: u64,
+    },
+}
+
+/// A window and the calls that run over it in order; all of them give the same start.
+#[derive(Clone, Debug, PartialEq, Eq)]
+pub struct List {
+    pub start: u64,
+    pub window: Vec<u8>,
+    pub calls: Vec<Call>,
+}
+
+/// The list of this index under this seed.
+pub fn list(seed: u64, index: u64) -> List {
+    let mut world = World::new(Random::new(seed, index));
+    let damages = match world.random.below(100) {
+        0..=39 => 0,
+        40..=84 => 1,
+        _ => world.random.between(2, 3),
+    };
+    for _ in 0..damages {
+        damage(&mut world);
+    }
+    let count = world.random.between(1, 30);
+    let mut calls = Vec::new();
+    let mut stored = Vec::new();
+    for _ in 0..count {
+        let call = if world.random.chance(20) {
+            take_call(&mut world, &stored)
+        } else {
+            request_call(&mut world, &mut stored)
+        };
+        calls.push(call);
+    }
+    let mut list = List {
+        start: world.layout.start,
+        window: world.layout.bytes,
+        calls,
+    };
+    if world.random.chance(2) {
+        break_window(&mut world.random, &mut list);
+    }
+    list
+}
+
+/// A window that 2001 refuses.
+fn break_window(random: &mut Random, list: &mut List) {
+    let length = list.window.len() as u64;
+    match random.below(6) {
+        0 => list.start += random.between(1, 4_095),
+        1 => list.window.truncate((length - length.min(1)) as usize),
+        2 => list.window.push(0),
+        3 => list.start = (1 << 56) - length + 4_096,
+        4 => list.start = u64::MAX - random.below(2) * 4_095,
+        _ => list.start = random.number() | 1 << 63,
+    }
+}
+
+/// A take: of what was just stored, or of something else, or a bad one.
+fn take_call(world: &mut World, stored: &[(u64, u64)]) -> Call {
+    let start = world.layout.start;
+    let length = world.layout.bytes.len() as u64;
+    let random = &mut world.random;
+    let last = stored.last().copied().unwrap_or((start, 37));
+    let (mut file, mut identity) = random.choose(stored).unwrap_or(last);
+    match random.below(100) {
+        0..=54 => (file, identity) = last,
+        55..=69 => {}
+        70..=77 => identity = random.below(2_048),
+        78..=83 => {
+            file = random.choose(&world.files).unwrap_or(start);
+            identity = random.below(2_048);
+        }
+        84..=86 => file = start + random.below(length / 512) * 512,
+        87..=88 => file += random.between(1, 511),
+        89..=90 => file = start.saturating_sub(512),
+        91..=92 => file = start.saturating_add(length),
+        93 => file = random.number() & !511,
+        94 => file = u64::MAX,
+        95..=96 => identity = 2_048,
+        97 => identity = random.number(),
+        98 => identity = u64::MAX,
+        _ => (file, identity) = (random.number(), random.number()),
+    }
+    Call::Take { file, identity }
+}
+
+/// A request at one of the targets, at times with one field changed.
+fn request_call(world: &mut World, stored: &mut Vec<(u64, u64)>) -> Call {
+    let target = choose_target(world);
+    let random = &mut world.random;
+    let page = random.below(target.span / 4_096) * 4_096;
+    let (offset, length) = choose_piece(random, target.message.is_some());
+    let mut request = Request {
+        device_id: target.device,
+        process_id: target.process,
+        supervisor: target.supervisor,
+        access: choose_access(random, target.message.is_some()),
+        address: target.address.wrapping_add(page) | offset,
+        length,
+    };
+    let data = choose_data(random, &request, target.message, stored);
+    let (mut mode, mut root) = (world.mode, world.root);
+    if random.chance(8) {
+        (mode, root) = change_settings(random, mode, root, world.layout.start);
+    } else if random.chance(18) {
+        change_request(random, &mut request);
+    }
+    Call::Request {
+        mode,
+        root,
+        request,
+        data,
+    }
+}
+
+/// One of the world's targets; any address where it has none.
+fn choose_target(world: &mut World) -> Target {
+    let any = Target {
+        device: world.random.of_width(24),
+        process: None,
+        supervisor: false,
+        address: world.random.number(),
+        span: 4_096,
+        message: None,
+    };
+    world.random.choose(&world.targets).unwrap_or(any)
+}
+
+/// The data value: an identity, reversed at offset 4; what may be stored is remembered for takes.
+fn choose_data(
+    random: &mut Random,
+    request: &Request,
+    file: Option<u64>,
+    stored: &mut Vec<(u64, u64)>,
+) -> u32 {
+    let offset = request.address % 4_096;
+    let identity = match stored.last() {
+        Some((_, identity)) if random.chance(35) => *identity,
+        _ => choose_identity(random),
+    };
+    if let Some(file) = file {
+        let storable = request.access == Access::Write && request.length == 4;
+        if storable && (offset == 0 || offset == 4) {
+            stored.push((file, identity));
+        }
+    }
+    match offset {
+        4 if random.chance(85) => (identity as u32).swap_bytes(),
+        _ => identity as u32,
+    }
+}
+
+/// Messages are mostly writes.
+fn choose_access(random: &mut Random, message: bool) -> Access {
+    if message && random.chance(82) {
+        return Access::Write;
+    }
+    random.pick(&Access::ALL)
+}
+
+/// Page offset and length: message writes at 0 and 4, and the edges of a page.
+fn choose_piece(random: &mut Random, message: bool) -> (u64, u64) {
+    let offset = match random.below(100) {
+        0..=44 => 0,
+        45..=74 => 4,
+        75..=80 => random.pick(&[1, 2, 8, 12, 2_048]),
+        81..=86 => random.pick(&[4_088, 4_092, 4_095]),
+        _ => random.below(4_096),
+    };
+    let length = match random.below(100) {
+        _ if message && random.chance(90) => 4,
+        0..=39 => 4,
+        40..=79 => random.pick(&[1, 2, 8]),
+        _ => 4_096 - offset,
+    };
+    (offset, length.min(4_096 - offset))
+}
+
+/// An identity: 0, the limits, and others.
+fn choose_identity(random: &mut Random) -> u64 {
+    match random.below(100) {
+        0..=9 => 0,
+        10..=34 => 37,
+        35..=54 => random.pick(&[1, 7, 8, 63, 64, 65, 2_046]),
+        55..=64 => 2_047,
+        65..=69 => 2_048,
+        70..=92 => random.below(2_048),
+        93..=96 => random.between(2_048, 70_000),
+        _ => random.number() & 0xFFFF_FFFF,
+    }
+}
+
+/// Another directory mode, or another root.
+fn change_settings(random: &mut Random, mode: u64, root: u64, start: u64) -> (u64, u64) {
+    match random.below(10) {
+        0 => (0, root),
+        1..=2 => (1, root),
+        3 => (random.between(2, 4), root),
+        4 => (random.pick(&[5, 15, 256, u64::MAX]), root),
+        5 => (random.number(), root),
+        6 => (mode, random.pick(&[1 << 44, u64::MAX, (1 << 44) - 1])),
+        7 => (mode, root ^ 1 << random.below(64)),
+        8 => (mode, (start >> 12) + random.below(40)),
+        _ => (random.below(5), random.of_width(44)),
+    }
+}
+
+/// One field of a request changed.
+fn change_request(random: &mut Random, request: &mut Request) {
+    match random.below(14) {
+        0 => request.device_id ^= 1 << random.below(24),
+        1 => request.device_id = random.of_width(24),
+        2 => request.device_id = random.pick(&[1 << 24, u64::MAX, 1 << 32]),
+        3 => request.process_id = None,
+        4 => request.process_id = Some(random.of_width(20)),
+        5 => request.process_id = Some(random.pick(&[1 << 8, 1 << 17, 0xF_FFFF, 0])),
+        6 => request.process_id = Some(random.pick(&[1 << 20, u64::MAX, 1 << 21])),
+        7 => request.supervisor = !request.supervisor,
+        8 => request.length = random.pick(&[0, 4_097, u64::MAX, 5, 3]),
+        9 => request.length = 4_096 - request.address % 4_096 + random.between(1, 9),
+        10 => request.address ^= 1 << random.below(64),
+        11..=12 => {
+            request.address = edge_address(random);
+            request.length = 1;
+        }
+        _ => request.access = random.pick(&Access::ALL),
+    }
+}
+
+/// Addresses at the limits of the schemes.
+fn edge_address(random: &mut Random) -> u64 {
+    let edge = random.pick(&[
+        1u64 << 38,
+        1 << 39,
+        1 << 41,
+        1 << 56,
+        1 << 63,
+        0,
+        u64::MAX << 38,
+        u64::MAX << 39,
+    ]);
+    match random.below(4) {
+        0 => edge,
+        1 => edge.wrapping_sub(1),
+        2 => edge.wrapping_add(random.of_width(41)),
+        _ => random.number(),
+    }
+}

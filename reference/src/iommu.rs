@@ -1,0 +1,480 @@
+//! The three calls: request, take, report (003, Process to translate an IOVA; 01).
+
+use crate::device::{self, DeviceContext};
+use crate::file::{self, FILE_SIZE};
+use crate::mark::{Mark, Point, See, Walk};
+use crate::memory::Window;
+use crate::message::{self, MessageEntry};
+use crate::paging::{self, Root};
+use crate::process;
+use crate::task::{first_broken, Task};
+use crate::types::{Answer, Pair, Report, Request, Settings, Stage, Step};
+
+/// A file's place in the window, with the identity to set.
+struct Store {
+    file: u64,
+    identity: u64,
+    notice_address: u64,
+    notice_number: u64,
+}
+
+/// How a request ends that neither faults nor is refused.
+enum End {
+    Answer(Answer),
+    Store(Store),
+}
+
+/// One device request.
+pub fn request(settings: &Settings, window: &mut [u8], request: &Request, data: u32) -> Answer {
+    request_observed(settings, window, request, data, &mut |_| {})
+}
+
+/// One device request; the observer is told of each check that decides.
+pub fn request_observed(
+    settings: &Settings,
+    window: &mut [u8],
+    request: &Request,
+    data: u32,
+    see: See,
+) -> Answer {
+    if let Some(point) = refused_window(settings.start, window.len()) {
+        see(Mark::Point(point));
+        see(Mark::Point(Point::RequestRefused2001));
+        return Answer::Refused(2001);
+    }
+    if let Some((number, point)) = refused_request(settings, request) {
+        see(Mark::Point(point));
+        return Answer::Refused(number);
+    }
+    let mut task = Task {
+        window: Window {
+            start: settings.start,
+            bytes: window,
+        },
+        request: *request,
+        see: &mut *see,
+    };
+    match translate(&mut task, settings, data) {
+        Ok(End::Answer(answer)) => answer,
+        Ok(End::Store(place)) => store(settings.start, window, &place, see),
+        Err(answer) => {
+            if let Answer::Fault { cause, stage } = answer {
+                see(Mark::Cause(stage, cause));
+            }
+            answer
+        }
+    }
+}
+
+/// Refusal 2001.
+fn refused_window(start: u64, length: usize) -> Option<Point> {
+    let length = length as u128;
+    first_broken(&[
+        (!start.is_multiple_of(4_096), Point::R2001Start),
+        (!length.is_multiple_of(4_096), Point::R2001Length),
+        (u128::from(start) + length > 1 << 56, Point::R2001High),
+    ])
+}
+
+/// Refusals 2002 to 2006, in order.
+fn refused_request(settings: &Settings, request: &Request) -> Option<(u64, Point)> {
+    let offset = u128::from(request.address % 4_096);
+    let end = offset + u128::from(request.length);
+    let process_wide = request.process_id.is_some_and(|process| process >= 1 << 20);
+    let lonely_supervisor = request.supervisor && request.process_id.is_none();
+    let rows = [
+        (settings.mode > 4, 2002, Point::R2002Mode),
+        (settings.root >= 1 << 44, 2002, Point::R2002Root),
+        (request.device_id >= 1 << 24, 2003, Point::R2003),
+        (process_wide, 2004, Point::R2004),
+        (lonely_supervisor, 2005, Point::R2005),
+        (request.length == 0, 2006, Point::R2006Zero),
+        (end > 4_096, 2006, Point::R2006Crossing),
+    ];
+    rows.iter()
+        .find(|(broken, _, _)| *broken)
+        .map(|(_, number, point)| (*number, *point))
+}
+
+/// 003, Process to translate an IOVA.
+fn translate(task: &mut Task, settings: &Settings, data: u32) -> Step<End> {
+    // Step 1.
+    if settings.mode == 0 {
+        return task.end(Point::ModeOff, 256, Stage::Directory);
+    }
+    // Step 2.
+    if settings.mode == 1 {
+        task.note(Point::ModeBare);
+        paging::check_untranslated(task, Point::BareTooHigh)?;
+        return Ok(End::Answer(Answer::Translated(task.request.address)));
+    }
+    task.note(match settings.mode {
+        2 => Point::ModeOne,
+        3 => Point::ModeTwo,
+        _ => Point::ModeThree,
+    });
+    // Steps 3 to 5.
+    let ddi = device::indices(task.request.device_id);
+    device::check_width(task, device::levels(settings.mode), &ddi)?;
+    // Step 6.
+    let context = device::locate(task, settings)?;
+    // Step 7.
+    process::check_request(task, &context)?;
+    // Steps 8 and 9 are those of Translated requests, which are out.
+    // Steps 10 to 16.
+    let first = first_stage(task, &context)?;
+    translate_stages(task, &context, first, data)
+}
+
+/// 003, Process to translate an IOVA, steps 10 to 16: the first stage, none where it is Bare.
+fn first_stage(task: &mut Task, context: &DeviceContext) -> Step<Option<Root>> {
+    // Step 10.
+    if !context.pdtv() {
+        task.note(Point::FirstFromDevice);
+        return Ok(device::first_stage(context.fsc));
+    }
+    let process_id = match task.request.process_id {
+        Some(process_id) => process_id,
+        // Step 11.
+        None if context.dpe() => {
+            task.note(Point::DefaultProcess);
+            0
+        }
+        // Step 12.
+        None => {
+            task.note(Point::NoDefaultProcess);
+            return Ok(None);
+        }
+    };
+    // Step 13.
+    if context.pdtp_mode() == 0 {
+        note_bare_process_directory(task, process_id);
+        return Ok(None);
+    }
+    task.note(match context.pdtp_mode() {
+        1 => Point::ProcessPd8,
+        2 => Point::ProcessPd17,
+        _ => Point::ProcessPd20,
+    });
+    // Step 14.
+    let process = process::locate(task, context, process_id)?;
+    // Step 15.
+    if task.request.supervisor && !process.ens() {
+        return task.end(Point::F260Ens, 260, Stage::Directory);
+    }
+    // Step 16.
+    task.note(Point::FirstFromProcess);
+    Ok(device::first_stage(process.fsc))
+}
+
+/// Tells the observer of a Bare process directory: no width, no ENS (D5).
+fn note_bare_process_directory(task: &mut Task, process_id: u64) {
+    task.note(Point::ProcessBare);
+    if process_id >= 1 << 8 {
+        task.note(Point::ProcessBareWide);
+    }
+    if task.request.supervisor {
+        task.note(Point::ProcessBareSupervisor);
+    }
+}
+
+/// 003, Process to translate an IOVA, steps 17 to 20.
+fn translate_stages(
+    task: &mut Task,
+    context: &DeviceContext,
+    first: Option<Root>,
+    data: u32,
+) -> Step<End> {
+    let second = context.second_stage();
+    if first.is_none() && second.is_none() {
+        // D4: no stage translates.
+        paging::check_untranslated(task, Point::UntranslatedTooHigh)?;
+        task.note(Point::PassedBare);
+        return Ok(End::Answer(Answer::Translated(task.request.address)));
+    }
+    // Step 17.
+    let mut guest = task.request.address;
+    let mut first_level = None;
+    if let Some(root) = &first {
+        let page = paging::walk(task, root, second.as_ref(), Walk::First, guest)?;
+        guest = page.address;
+        first_level = Some(page.level);
+    }
+    // Step 18.
+    if context.messages_on() && is_message(task, context, guest, first.is_some()) {
+        return message_end(task, context, guest, data);
+    }
+    // Step 19.
+    match &second {
+        Some(root) => translate_guest(task, context, root, guest, first_level),
+        None => {
+            task.note(Point::PassedFirst);
+            Ok(End::Answer(Answer::Translated(guest)))
+        }
+    }
+}
+
+/// 003, Process to translate an IOVA, steps 19 and 20, where the second stage is on.
+fn translate_guest(
+    task: &mut Task,
+    context: &DeviceContext,
+    root: &Root,
+    guest: u64,
+    first_level: Option<u64>,
+) -> Step<End> {
+    if !context.messages_on() {
+        task.note(Point::MessageOff);
+    }
+    let page = paging::walk(task, root, None, Walk::SecondFinal, guest)?;
+    match first_level {
+        Some(level) => {
+            task.note(Point::PassedBoth);
+            (task.see)(Mark::Sizes(level, page.level));
+        }
+        None => task.note(Point::PassedSecond),
+    }
+    Ok(End::Answer(Answer::Translated(page.address)))
+}
+
+/// 003, Process to translate addresses of MSIs, steps 3 and 4.
+fn is_message(task: &mut Task, context: &DeviceContext, guest: u64, after_first: bool) -> bool {
+    if !message::recognised(guest, context.mask, context.pattern) {
+        task.note(match guest >> 41 {
+            0 => Point::NotRecognised,
+            _ => Point::NotRecognisedHigh,
+        });
+        return false;
+    }
+    task.note(match after_first {
+        true => Point::RecognisedAfterFirst,
+        false => Point::Recognised,
+    });
+    task.note(match context.mask.count_ones() {
+        0 => Point::MaskZero,
+        1..=8 => Point::MaskSmall,
+        _ => Point::MaskLarge,
+    });
+    true
+}
+
+/// 01, Messages: what a recognised access becomes.
+fn message_end(task: &mut Task, context: &DeviceContext, guest: u64, data: u32) -> Step<End> {
+    match message::locate(task, context, guest)? {
+        // 003, step 13.2: the offset is kept.
+        MessageEntry::Redirect { page } => {
+            task.note(Point::Redirect);
+            Ok(End::Answer(Answer::Redirected(page | (guest % 4_096))))
+        }
+        MessageEntry::File {
+            file,
+            notice_address,
+            notice_number,
+        } => {
+            let Some(identity) = stored_identity(task, file, guest, data)? else {
+                return Ok(End::Answer(Answer::Discarded));
+            };
+            note_store(task, guest, identity, notice_number);
+            Ok(End::Store(Store {
+                file,
+                identity,
+                notice_address,
+                notice_number,
+            }))
+        }
+    }
+}
+
+/// 01, Messages: the identity to store, none where the access is discarded, or refusal 2007.
+fn stored_identity(task: &mut Task, file: u64, guest: u64, data: u32) -> Step<Option<u64>> {
+    let request = task.request;
+    let inside = task.window.holds(file, FILE_SIZE);
+    match message::identity_to_store(request.access, request.length, guest, data) {
+        // Discarded before 2007 is looked at.
+        Err(point) => {
+            task.note(point);
+            if !inside {
+                task.note(Point::DiscardOutside);
+            }
+            Ok(None)
+        }
+        // Refusal 2007, last of all.
+        Ok(_) if !inside => {
+            task.note(match file < task.window.start {
+                true => Point::R2007Below,
+                false => Point::R2007Above,
+            });
+            Err(Answer::Refused(2007))
+        }
+        Ok(identity) => Ok(Some(identity)),
+    }
+}
+
+/// Tells the observer of a store.
+fn note_store(task: &mut Task, guest: u64, identity: u64, notice_number: u64) {
+    task.note(match guest % 4_096 {
+        0 => Point::StoreAt0,
+        _ => Point::StoreAt4,
+    });
+    if identity == 0 {
+        task.note(Point::StoreZero);
+    }
+    if identity == 2_047 {
+        task.note(Point::StoreLast);
+    }
+    if notice_number >= 1 << 10 {
+        task.note(Point::NoticeBit10);
+    }
+}
+
+/// The store itself: the only change that a request makes.
+fn store(start: u64, window: &mut [u8], place: &Store, see: See) -> Answer {
+    let offset = (place.file - start) as usize;
+    let was_pending = file::store(&mut window[offset..offset + 512], place.identity);
+    see(Mark::Point(match was_pending {
+        true => Point::StoreMerged,
+        false => Point::StoreNew,
+    }));
+    Answer::Stored {
+        file: place.file,
+        notice_address: place.notice_address,
+        notice_number: place.notice_number,
+    }
+}
+
+/// Refusal 2008.
+fn refused_file(start: u64, window: &[u8], file: u64) -> Option<Point> {
+    let view = Window {
+        start,
+        bytes: window,
+    };
+    let outside = !view.holds(file, FILE_SIZE);
+    first_broken(&[
+        (!file.is_multiple_of(FILE_SIZE), Point::R2008Misaligned),
+        (window.is_empty(), Point::R2008Empty),
+        (outside && file < start, Point::R2008Below),
+        (outside, Point::R2008Above),
+    ])
+}
+
+/// The take of one pending interrupt.
+pub fn take(start: u64, window: &mut [u8], file: u64, identity: u64) -> Answer {
+    take_observed(start, window, file, identity, &mut |_| {})
+}
+
+/// The take; the observer is told of each check that decides.
+pub fn take_observed(start: u64, window: &mut [u8], file: u64, identity: u64, see: See) -> Answer {
+    if let Some(point) = refused_window(start, window.len()) {
+        see(Mark::Point(point));
+        see(Mark::Point(Point::TakeRefused2001));
+        return Answer::Refused(2001);
+    }
+    if let Some(point) = refused_file(start, window, file) {
+        see(Mark::Point(point));
+        see(Mark::Point(Point::TakeRefused2008));
+        return Answer::Refused(2008);
+    }
+    if identity > 2_047 {
+        see(Mark::Point(Point::R2009));
+        return Answer::Refused(2009);
+    }
+    let offset = (file - start) as usize;
+    let was_pending = file::take(&mut window[offset..offset + 512], identity);
+    see(Mark::Point(match was_pending {
+        true => Point::TakeOfOne,
+        false => Point::TakeOfZero,
+    }));
+    Answer::Taken(was_pending)
+}
+
+/// The report of one file.
+pub fn report(start: u64, window: &[u8], file: u64) -> Report {
+    report_observed(start, window, file, &mut |_| {})
+}
+
+/// The report; the observer is told of each check that decides.
+pub fn report_observed(start: u64, window: &[u8], file: u64, see: See) -> Report {
+    let mut report = Report {
+        refusal: 0,
+        count: 0,
+        pairs: [Pair::default(); 32],
+    };
+    if let Some(point) = refused_window(start, window.len()) {
+        see(Mark::Point(point));
+        see(Mark::Point(Point::ReportRefused2001));
+        report.refusal = 2001;
+        return report;
+    }
+    if let Some(point) = refused_file(start, window, file) {
+        see(Mark::Point(point));
+        see(Mark::Point(Point::ReportRefused2008));
+        report.refusal = 2008;
+        return report;
+    }
+    let offset = (file - start) as usize;
+    report.pairs = file::pairs(&window[offset..offset + 512]);
+    report.count = file::count(&report.pairs);
+    see(Mark::Point(Point::ReportMade));
+    report
+}
+
+#[cfg(test)]
+mod tests {
+    use super::{report, request, take};
+    use crate::random::Random;
+    use crate::types::{Access, Request, Settings};
+
+    /// A number at an edge, or any number.
+    fn any(random: &mut Random) -> u64 {
+        let edge = 1u64 << random.below(64);
+        match random.below(6) {
+            0 => edge,
+            1 => edge - 1,
+            2 => u64::MAX - random.below(5_000),
+            3 => random.below(5),
+            4 => random.below(1 << 14) & !0x1FF,
+            _ => random.number(),
+        }
+    }
+
+    /// Any input is answered: wholly free arguments over free bytes.
+    #[test]
+    fn every_input_is_answered() {
+        let mut random = Random::new(3, 3);
+        for _ in 0..60_000 {
+            let length = random.pick(&[0, 1, 512, 4_095, 4_096, 4_096, 8_192, 8_192]);
+            let full = random.number() | random.number();
+            let mut window: Vec<u8> = (0..length).map(|n| (full >> (n % 61)) as u8).collect();
+            let start = if random.chance(70) {
+                0
+            } else {
+                any(&mut random)
+            };
+            let settings = Settings {
+                start,
+                mode: if random.chance(80) {
+                    2
+                } else {
+                    any(&mut random)
+                },
+                root: if random.chance(70) {
+                    0
+                } else {
+                    any(&mut random)
+                },
+            };
+            let process = any(&mut random);
+            let asked = Request {
+                device_id: any(&mut random),
+                process_id: random.chance(50).then_some(process),
+                supervisor: random.chance(30),
+                access: random.pick(&Access::ALL),
+                address: any(&mut random),
+                length: any(&mut random),
+            };
+            request(&settings, &mut window, &asked, random.number() as u32);
+            let (file, identity) = (any(&mut random), any(&mut random));
+            take(start, &mut window, file, identity);
+            report(start, &window, file);
+        }
+    }
+}

@@ -1,0 +1,30 @@
+//! An independent reference for the Yasmurekh IOMMU, written from the documents alone.
+//!
+//! "01" is the scope paper, "003" the IOMMU data structures, "000" the IOMMU chapter of the
+//! Advanced Interrupt Architecture, "Priv" the RISC-V Privileged specification; D1, D2, .. are
+//! the entries of docs/DECISIONS.md.
+
+#![forbid(unsafe_code)]
+
+pub mod check;
+pub mod coverage;
+pub mod damage;
+pub mod device;
+pub mod file;
+pub mod generate;
+pub mod iommu;
+pub mod layout;
+pub mod ledger;
+pub mod mark;
+pub mod memory;
+pub mod message;
+pub mod paging;
+pub mod process;
+pub mod random;
+pub mod task;
+pub mod text;
+pub mod types;
+pub mod world;
+
+pub use iommu::{report, request, take};
+pub use types::{Access, Answer, Pair, Report, Request, Settings, Stage};

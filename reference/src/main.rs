@@ -1,0 +1,136 @@
+//! The command `reference`.
+
+use std::io::{Read, Write};
+use std::process::ExitCode;
+
+use yasmurekh_reference::check;
+use yasmurekh_reference::coverage::Coverage;
+use yasmurekh_reference::generate::list;
+use yasmurekh_reference::text::{rerun, write_list};
+
+const USAGE: &str = "usage:
+  reference check                                  run the program's own checks
+  reference coverage [--seed S] [--count N]        run N generated calls (1000000), print coverage
+  reference lists --seed S --from A --count N      print generated lists with their answers
+  reference rerun                                  run lists from standard input again, compare";
+
+fn main() -> ExitCode {
+    let words: Vec<String> = std::env::args().skip(1).collect();
+    let options = words.get(1..).unwrap_or(&[]);
+    let done = match words.first().map(String::as_str) {
+        None => {
+            println!("{USAGE}");
+            Ok(true)
+        }
+        Some("check") if options.is_empty() => Ok(run_checks()),
+        Some("coverage") => run_coverage(options),
+        Some("lists") => print_lists(options),
+        Some("rerun") if options.is_empty() => run_again(),
+        _ => Err(USAGE.to_string()),
+    };
+    match done {
+        Ok(true) => ExitCode::SUCCESS,
+        Ok(false) => ExitCode::FAILURE,
+        Err(text) => {
+            println!("{text}");
+            ExitCode::FAILURE
+        }
+    }
+}
+
+/// The value of an option, or its default.
+fn option(options: &[String], name: &str, default: Option<u64>) -> Result<u64, String> {
+    for pair in options.chunks(2) {
+        if pair[0] == name {
+            let value = pair.get(1).and_then(|text| text.parse().ok());
+            return value.ok_or_else(|| format!("{name} needs a number\n{USAGE}"));
+        }
+    }
+    default.ok_or_else(|| format!("{name} is missing\n{USAGE}"))
+}
+
+/// Only the options named may stand there.
+fn only(options: &[String], names: &[&str]) -> Result<(), String> {
+    for pair in options.chunks(2) {
+        if !names.contains(&pair[0].as_str()) {
+            return Err(format!("unknown option {}\n{USAGE}", pair[0]));
+        }
+    }
+    Ok(())
+}
+
+fn run_checks() -> bool {
+    let checks = check::all();
+    for check in &checks {
+        match check.holds {
+            true => println!("{}", check.name),
+            false => println!("FAILED {}", check.name),
+        }
+    }
+    let failed = checks.iter().filter(|check| !check.holds).count();
+    println!("{} checks, {failed} failed", checks.len());
+    failed == 0
+}
+
+fn run_coverage(options: &[String]) -> Result<bool, String> {
+    only(options, &["--seed", "--count"])?;
+    let seed = option(options, "--seed", Some(1))?;
+    let count = option(options, "--count", Some(1_000_000))?;
+    let coverage = Coverage::run(seed, count);
+    coverage.print();
+    println!();
+    for failure in &coverage.failures {
+        println!("failed: {failure}");
+    }
+    let unexpected = coverage.unexpected();
+    for mark in &unexpected {
+        println!("not in the table: {}: {}", mark.group(), mark.name());
+    }
+    println!(
+        "seed {seed}: {} lists, {} calls, {} failed",
+        coverage.lists,
+        coverage.calls,
+        coverage.failures.len()
+    );
+    let zero = coverage.at_zero();
+    for mark in &zero {
+        println!("at zero: {}: {}", mark.group(), mark.name());
+    }
+    if zero.is_empty() {
+        println!("nothing left at zero");
+    }
+    Ok(zero.is_empty() && unexpected.is_empty() && coverage.failures.is_empty())
+}
+
+fn print_lists(options: &[String]) -> Result<bool, String> {
+    only(options, &["--seed", "--from", "--count"])?;
+    let seed = option(options, "--seed", None)?;
+    let from = option(options, "--from", None)?;
+    let count = option(options, "--count", None)?;
+    let mut out = std::io::stdout().lock();
+    for index in from..from.saturating_add(count) {
+        let text = write_list(index, &list(seed, index));
+        if out.write_all(text.as_bytes()).is_err() {
+            return Ok(false);
+        }
+    }
+    Ok(true)
+}
+
+fn run_again() -> Result<bool, String> {
+    let mut text = String::new();
+    if std::io::stdin().read_to_string(&mut text).is_err() {
+        return Err("standard input can't be read as text".to_string());
+    }
+    let result = rerun(&text)?;
+    for line in &result.different {
+        println!("different: {line}");
+    }
+    println!(
+        "{} lists, {} calls, {} different",
+        result.lists,
+        result.calls,
+        result.different.len()
+    );
+    Ok(result.different.is_empty())
+}

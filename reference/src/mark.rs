@@ -1,0 +1,307 @@
+//! Marks: the names of the sub-checks and outcomes that a call passes, for coverage.
+
+use crate::types::{Access, Stage};
+
+macro_rules! named {
+    ($(#[$note:meta])* $type:ident { $($variant:ident = $name:literal),* $(,)? }) => {
+        $(#[$note])*
+        #[derive(Clone, Copy, Debug, PartialEq, Eq, PartialOrd, Ord)]
+        pub enum $type { $($variant),* }
+
+        impl $type {
+            pub const ALL: &'static [$type] = &[$($type::$variant),*];
+
+            pub fn name(self) -> &'static str {
+                match self { $($type::$variant => $name),* }
+            }
+        }
+    };
+}
+
+named!(
+    /// The four walks: the first stage, and the second stage in its three roles.
+    Walk {
+        First = "first stage",
+        SecondFinal = "second stage, final address",
+        SecondForFirst = "second stage, first-stage entry",
+        SecondForProcess = "second stage, process-directory entry",
+    }
+);
+
+named!(
+    /// Why a walk ends in a fault.
+    EntryFault {
+        Sign = "sign rule",
+        Limit = "guest limit",
+        LoadViolation = "load violation",
+        NotValid = "V = 0",
+        WriteWithoutRead = "W without R",
+        HighBits = "bits 63:54",
+        NonLeafAccessed = "non-leaf with A",
+        NonLeafDirty = "non-leaf with D",
+        NonLeafUser = "non-leaf with U",
+        NonLeafAtLast = "non-leaf at the last level",
+        MisalignedLevel1 = "misaligned 2 MiB page",
+        MisalignedLevel2 = "misaligned 1 GiB page",
+        UserNeedsUser = "user request, U = 0",
+        SupervisorBarred = "supervisor request, U = 1",
+        SecondNeedsUser = "second stage, U = 0",
+        NoRead = "no R",
+        NoWrite = "no W",
+        NoExecute = "no X",
+        NotAccessed = "A = 0",
+        NotDirty = "write with D = 0",
+    }
+);
+
+named!(
+    /// Everything that stands alone.
+    Point {
+        R2001Start = "2001 start misaligned",
+        R2001Length = "2001 length misaligned",
+        R2001High = "2001 end above 2^56",
+        R2002Mode = "2002 mode above 4",
+        R2002Root = "2002 root page number too wide",
+        R2003 = "2003 device_id too wide",
+        R2004 = "2004 process_id too wide",
+        R2005 = "2005 supervisor without process_id",
+        R2006Zero = "2006 length 0",
+        R2006Crossing = "2006 crossing a page",
+        R2007Below = "2007 file below the window",
+        R2007Above = "2007 file above the window",
+        R2008Misaligned = "2008 file misaligned",
+        R2008Below = "2008 file below the window",
+        R2008Above = "2008 file above the window",
+        R2008Empty = "2008 empty window",
+        R2009 = "2009 identity above 2047",
+        RequestRefused2001 = "request refused 2001",
+        TakeRefused2001 = "take refused 2001",
+        TakeRefused2008 = "take refused 2008",
+        ReportRefused2001 = "report refused 2001",
+        ReportRefused2008 = "report refused 2008",
+        ModeOff = "directory mode 0 Off",
+        ModeBare = "directory mode 1 Bare",
+        ModeOne = "directory mode 2, one level",
+        ModeTwo = "directory mode 3, two levels",
+        ModeThree = "directory mode 4, three levels",
+        BareTooHigh = "Bare directory, address of 2^56 or more",
+        UntranslatedTooHigh = "both stages Bare, address of 2^56 or more",
+        F257NonLeaf = "257 non-leaf",
+        F257Context = "257 device context",
+        F258NonLeaf = "258 non-leaf",
+        F258Context = "258 device context",
+        F259NonLeafLow = "259 non-leaf bits 9:1",
+        F259NonLeafHigh = "259 non-leaf bits 63:54",
+        F259TcEnAts = "259 tc EN_ATS, bit 1",
+        F259TcEnPri = "259 tc EN_PRI, bit 2",
+        F259TcT2gpa = "259 tc T2GPA, bit 3",
+        F259TcPrpr = "259 tc PRPR, bit 6",
+        F259TcGade = "259 tc GADE, bit 7",
+        F259TcSade = "259 tc SADE, bit 8",
+        F259TcSbe = "259 tc SBE, bit 10",
+        F259TcSxl = "259 tc SXL, bit 11",
+        F259TcReserved = "259 tc bits 23:12",
+        F259TcCustom = "259 tc custom bits 31:24",
+        F259TcHigh = "259 tc bits 63:32",
+        F259DpeWithoutPdtv = "259 DPE without PDTV",
+        F259IohgatpMode = "259 iohgatp mode",
+        F259IohgatpRoot = "259 second-stage root not on 16 KiB",
+        F259TaLow = "259 ta bits 11:0",
+        F259TaHigh = "259 ta bits 63:32",
+        F259FscReserved = "259 fsc bits 59:44",
+        F259FscMode = "259 fsc mode, PDTV = 0",
+        F259PdtpMode = "259 pdtp mode, PDTV = 1",
+        F259MsiptpReserved = "259 msiptp bits 59:44",
+        F259MsiptpMode = "259 msiptp mode",
+        F259MsiptpBare = "259 msiptp on, second stage Bare",
+        F259MaskReserved = "259 mask bit 29 or above",
+        F259PatternReserved = "259 pattern bit 29 or above",
+        F259Eighth = "259 eighth doubleword",
+        F260OneLevelDdi1 = "260 one level, DDI[1]",
+        F260OneLevelDdi2 = "260 one level, DDI[2]",
+        F260TwoLevelsDdi2 = "260 two levels, DDI[2]",
+        F260ProcessWithoutPdtv = "260 process_id, PDTV = 0",
+        F260Pd8 = "260 process_id too wide for PD8",
+        F260Pd17 = "260 process_id too wide for PD17",
+        F260Ens = "260 supervisor without ENS",
+        FirstFromDevice = "first stage from the device context",
+        FirstFromProcess = "first stage from a process context",
+        DefaultProcess = "DPE = 1, process 0",
+        NoDefaultProcess = "DPE = 0, first stage Bare",
+        ProcessBare = "pdtp Bare",
+        ProcessBareWide = "pdtp Bare, process_id above 8 bits",
+        ProcessBareSupervisor = "pdtp Bare, supervisor",
+        ProcessPd8 = "PD8",
+        ProcessPd17 = "PD17",
+        ProcessPd20 = "PD20",
+        ProcessPhysical = "process directory, second stage Bare",
+        ProcessGuest = "process directory at guest addresses",
+        F265NonLeaf = "265 non-leaf",
+        F265Context = "265 process context",
+        F265Second = "265 inside the second stage",
+        F266NonLeaf = "266 non-leaf",
+        F266Context = "266 process context",
+        F267NonLeafLow = "267 non-leaf bits 9:1",
+        F267NonLeafHigh = "267 non-leaf bits 63:54",
+        F267TaLow = "267 ta bits 11:3",
+        F267TaHigh = "267 ta bits 63:32",
+        F267FscReserved = "267 fsc bits 59:44",
+        F267FscMode = "267 fsc mode",
+        MessageOff = "msiptp Off, second stage on",
+        NotRecognised = "msiptp on, address not recognised",
+        NotRecognisedHigh = "msiptp on, address of 2^41 or more",
+        Recognised = "recognised, first stage Bare",
+        RecognisedAfterFirst = "recognised after the first stage",
+        MaskZero = "recognised, mask without ones",
+        MaskSmall = "recognised, 1 to 8 ones in the mask",
+        MaskLarge = "recognised, more than 8 ones in the mask",
+        F261 = "261 load",
+        F262 = "262 V = 0",
+        F263Table = "263 table misaligned, more than 8 ones",
+        F263Custom = "263 C = 1",
+        F263Mode0 = "263 M = 0",
+        F263Mode2 = "263 M = 2",
+        F263Mode3Low = "263 M = 3, bits 9:3",
+        F263Mode3High = "263 M = 3, bits 62:54",
+        F263Mode1Low = "263 M = 1, bits 6:3",
+        F263Mode1High = "263 M = 1, bits 62:54",
+        F263SecondMiddle = "263 second doubleword, bits 59:54",
+        F263SecondHigh = "263 second doubleword, bits 63:61",
+        ExecuteAtRedirect = "cause 1 at a message entry, M = 3",
+        ExecuteAtFile = "cause 1 at a message entry, M = 1",
+        Redirect = "redirected",
+        StoreAt0 = "stored at offset 0",
+        StoreAt4 = "stored at offset 4",
+        StoreMerged = "stored, was pending",
+        StoreNew = "stored, was not pending",
+        StoreZero = "stored, identity 0",
+        StoreLast = "stored, identity 2047",
+        NoticeBit10 = "stored, notice bit 10 set",
+        DiscardRead = "discarded, read",
+        DiscardLength = "discarded, length",
+        DiscardOffset = "discarded, offset",
+        DiscardIdentity = "discarded, identity at offset 0",
+        DiscardIdentityBig = "discarded, identity at offset 4",
+        DiscardOutside = "discarded, file outside the window",
+        TakeOfOne = "take of 1",
+        TakeOfZero = "take of 0",
+        ReportMade = "report made",
+        PassedBare = "translated, both stages Bare",
+        PassedFirst = "translated, first stage only",
+        PassedSecond = "translated, second stage only",
+        PassedBoth = "translated, both stages",
+    }
+);
+
+/// One mark of coverage.
+#[derive(Clone, Copy, Debug, PartialEq, Eq, PartialOrd, Ord)]
+pub enum Mark {
+    /// A check or outcome that stands alone.
+    Point(Point),
+    /// A walk's reason for its fault.
+    Entry(Walk, EntryFault),
+    /// A walk's page fault under an original access.
+    PageFault(Walk, Access),
+    /// A walk's access violation under an original access.
+    Violation(Walk, Access),
+    /// A walk that reached a page at this level: 0 is 4 KiB, 1 is 2 MiB, 2 is 1 GiB.
+    Size(Walk, u64),
+    /// The levels of the first-stage page and of the second-stage page of one translation.
+    Sizes(u64, u64),
+    /// A cause, and the stage that found it.
+    Cause(Stage, u64),
+}
+
+/// The observer that is told of each mark.
+pub type See<'a> = &'a mut dyn FnMut(Mark);
+
+/// The pairs of stage and cause that can arise.
+pub const CAUSES: [(Stage, &[u64]); 5] = [
+    (Stage::Directory, &[256, 257, 258, 259, 260, 1, 5, 7]),
+    (Stage::ProcessDirectory, &[265, 266, 267]),
+    (Stage::First, &[1, 5, 7, 12, 13, 15]),
+    (Stage::Second, &[1, 5, 7, 20, 21, 23]),
+    (Stage::MessageTable, &[1, 261, 262, 263]),
+];
+
+const SIZES: [&str; 3] = ["4 KiB", "2 MiB", "1 GiB"];
+
+/// Whether a walk can end by this reason.
+pub fn can_arise(walk: Walk, reason: EntryFault) -> bool {
+    let first = walk == Walk::First;
+    match reason {
+        // Sv39's rule, and the two rules of U, are the first stage's.
+        EntryFault::Sign | EntryFault::UserNeedsUser | EntryFault::SupervisorBarred => first,
+        // Sv39x4's limit and its U rule are the second stage's.
+        EntryFault::Limit | EntryFault::SecondNeedsUser => !first,
+        // An implicit access is a read (D7).
+        EntryFault::NoWrite | EntryFault::NoExecute | EntryFault::NotDirty => {
+            first || walk == Walk::SecondFinal
+        }
+        _ => true,
+    }
+}
+
+impl Mark {
+    /// Every mark that can arise, in the order of the table.
+    pub fn all() -> Vec<Mark> {
+        let mut marks: Vec<Mark> = Point::ALL.iter().map(|point| Mark::Point(*point)).collect();
+        for &walk in Walk::ALL {
+            for &reason in EntryFault::ALL {
+                if can_arise(walk, reason) {
+                    marks.push(Mark::Entry(walk, reason));
+                }
+            }
+        }
+        for &walk in Walk::ALL {
+            marks.extend(Access::ALL.map(|access| Mark::PageFault(walk, access)));
+            marks.extend(Access::ALL.map(|access| Mark::Violation(walk, access)));
+        }
+        for &walk in Walk::ALL {
+            marks.extend([0, 1, 2].map(|level| Mark::Size(walk, level)));
+        }
+        for first in 0..3 {
+            marks.extend([0, 1, 2].map(|second| Mark::Sizes(first, second)));
+        }
+        for (stage, causes) in CAUSES {
+            marks.extend(causes.iter().map(|cause| Mark::Cause(stage, *cause)));
+        }
+        marks
+    }
+
+    /// The group under which the table prints the mark.
+    pub fn group(self) -> &'static str {
+        match self {
+            Mark::Point(_) => "checks and outcomes",
+            Mark::Entry(walk, _) => walk.name(),
+            Mark::PageFault(..) | Mark::Violation(..) => "walk faults by original access",
+            Mark::Size(..) => "page sizes reached",
+            Mark::Sizes(..) => "page sizes, first stage and second stage",
+            Mark::Cause(..) => "cause by stage",
+        }
+    }
+
+    /// The mark's name within its group.
+    pub fn name(self) -> String {
+        match self {
+            Mark::Point(point) => point.name().to_string(),
+            Mark::Entry(_, reason) => reason.name().to_string(),
+            Mark::PageFault(walk, access) => {
+                format!("{}: page fault, {}", walk.name(), access.name())
+            }
+            Mark::Violation(walk, access) => {
+                format!("{}: access violation, {}", walk.name(), access.name())
+            }
+            Mark::Size(walk, level) => format!("{}: {}", walk.name(), size_name(level)),
+            Mark::Sizes(first, second) => {
+                format!("{} and {}", size_name(first), size_name(second))
+            }
+            Mark::Cause(stage, cause) => format!("{}: {cause}", stage.name()),
+        }
+    }
+}
+
+/// The page size of a level.
+fn size_name(level: u64) -> &'static str {
+    SIZES.get(level as usize).copied().unwrap_or("larger")
+}

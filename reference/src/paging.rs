@@ -1,0 +1,248 @@
+//! The page-table walk of both stages (Priv, address-translation process; 01, The two walks).
+
+use crate::mark::{EntryFault, Mark, Point, Walk};
+use crate::task::Task;
+use crate::types::{access_fault, bit, bits, fault, guest_page_fault, page_address, page_fault};
+use crate::types::{Access, Answer, Stage, Step};
+
+/// A page-table scheme: its level count, index widths and address width.
+#[derive(Debug, PartialEq, Eq)]
+pub struct Scheme {
+    pub levels: u64,
+    pub index_bits: u32,
+    pub root_index_bits: u32,
+    pub address_bits: u32,
+    /// The bits above the address width repeat its highest bit; else they are zero.
+    pub signed: bool,
+}
+
+pub const SV39: Scheme = Scheme {
+    levels: 3,
+    index_bits: 9,
+    root_index_bits: 9,
+    address_bits: 39,
+    signed: true,
+};
+
+pub const SV39X4: Scheme = Scheme {
+    levels: 3,
+    index_bits: 9,
+    root_index_bits: 11,
+    address_bits: 41,
+    signed: false,
+};
+
+impl Scheme {
+    /// 01, The two walks: the sign rule of the first stage, the limit of the second.
+    pub fn covers(&self, address: u64) -> bool {
+        if !self.signed {
+            return address >> self.address_bits == 0;
+        }
+        let above = address >> (self.address_bits - 1);
+        above == 0 || above == u64::MAX >> (self.address_bits - 1)
+    }
+
+    /// The index of an address at a level; the root's may be wider.
+    pub fn index(&self, address: u64, level: u64) -> u64 {
+        let width = if level == self.levels - 1 {
+            self.root_index_bits
+        } else {
+            self.index_bits
+        };
+        let low = page_bits(self, level);
+        bits(address, low + width - 1, low)
+    }
+}
+
+/// The width of the offset within a page of a level: 12, 21, 30, ..
+fn page_bits(scheme: &Scheme, level: u64) -> u32 {
+    12 + scheme.index_bits * level as u32
+}
+
+/// The root of one stage's tables.
+#[derive(Clone, Copy, Debug, PartialEq, Eq)]
+pub struct Root {
+    pub scheme: &'static Scheme,
+    pub table: u64,
+}
+
+/// What a walk finds.
+#[derive(Clone, Copy, Debug, PartialEq, Eq)]
+pub struct Page {
+    pub address: u64,
+    pub level: u64,
+}
+
+/// What a walk needs of a page: an implicit access is a read (D7).
+fn needed(walk: Walk, original: Access) -> Access {
+    match walk {
+        Walk::First | Walk::SecondFinal => original,
+        Walk::SecondForFirst | Walk::SecondForProcess => Access::Read,
+    }
+}
+
+/// Priv, the address-translation process, over one scheme. `second` is the second stage under a
+/// first-stage walk; the entries of that walk then lie at guest addresses.
+pub fn walk(
+    task: &mut Task,
+    root: &Root,
+    second: Option<&Root>,
+    walk: Walk,
+    address: u64,
+) -> Step<Page> {
+    let scheme = root.scheme;
+    if !scheme.covers(address) {
+        let rule = if scheme.signed {
+            EntryFault::Sign
+        } else {
+            EntryFault::Limit
+        };
+        return Err(page_fault_of(task, walk, rule));
+    }
+    // Step 1.
+    let mut a = root.table;
+    let mut level = scheme.levels;
+    while level > 0 {
+        level -= 1;
+        // Step 2.
+        let entry = load_entry(task, second, walk, a + scheme.index(address, level) * 8)?;
+        // Step 3.
+        check_entry(task, walk, entry)?;
+        // Step 4: with R or X it is a leaf.
+        if bit(entry, 1) || bit(entry, 3) {
+            check_leaf(task, walk, entry, scheme, level)?;
+            (task.see)(Mark::Size(walk, level));
+            return Ok(page(scheme, level, entry, address));
+        }
+        check_non_leaf(task, walk, entry)?;
+        a = page_address(bits(entry, 53, 10));
+    }
+    // Step 4: a pointer at the last level.
+    Err(page_fault_of(task, walk, EntryFault::NonLeafAtLast))
+}
+
+/// Step 2: the load of one entry; under the second stage its address is translated first.
+fn load_entry(task: &mut Task, second: Option<&Root>, kind: Walk, address: u64) -> Step<u64> {
+    let place = match second {
+        Some(root) => walk(task, root, None, Walk::SecondForFirst, address)?.address,
+        None => address,
+    };
+    match task.window.load(place) {
+        Some(entry) => Ok(entry),
+        None => Err(violation_of(task, kind)),
+    }
+}
+
+/// Step 3: V, W without R, and the reserved bits.
+fn check_entry(task: &mut Task, walk: Walk, entry: u64) -> Step<()> {
+    let reasons = [
+        (!bit(entry, 0), EntryFault::NotValid),
+        (
+            bit(entry, 2) && !bit(entry, 1),
+            EntryFault::WriteWithoutRead,
+        ),
+        (bits(entry, 63, 54) != 0, EntryFault::HighBits),
+    ];
+    end_if_any(task, walk, &reasons)
+}
+
+/// A non-leaf entry has neither A nor D nor U.
+fn check_non_leaf(task: &mut Task, walk: Walk, entry: u64) -> Step<()> {
+    let reasons = [
+        (bit(entry, 6), EntryFault::NonLeafAccessed),
+        (bit(entry, 7), EntryFault::NonLeafDirty),
+        (bit(entry, 4), EntryFault::NonLeafUser),
+    ];
+    end_if_any(task, walk, &reasons)
+}
+
+/// Steps 5 to 7: alignment of a large page, U, permission, A and D.
+fn check_leaf(task: &mut Task, walk: Walk, entry: u64, scheme: &Scheme, level: u64) -> Step<()> {
+    let low = bits(entry, 53, 10) % (1 << (page_bits(scheme, level) - 12));
+    let misaligned = if level == 1 {
+        EntryFault::MisalignedLevel1
+    } else {
+        EntryFault::MisalignedLevel2
+    };
+    let first = walk == Walk::First;
+    let supervisor = task.request.supervisor;
+    let user = bit(entry, 4);
+    let need = needed(walk, task.request.access);
+    let (read, write, execute) = (bit(entry, 1), bit(entry, 2), bit(entry, 3));
+    let reasons = [
+        (low != 0, misaligned),
+        // 01, The two walks: the rules of U.
+        (first && !supervisor && !user, EntryFault::UserNeedsUser),
+        (first && supervisor && user, EntryFault::SupervisorBarred),
+        (!first && !user, EntryFault::SecondNeedsUser),
+        (need == Access::Read && !read, EntryFault::NoRead),
+        (need == Access::Write && !write, EntryFault::NoWrite),
+        (
+            need == Access::ReadForExecute && !execute,
+            EntryFault::NoExecute,
+        ),
+        (!bit(entry, 6), EntryFault::NotAccessed),
+        (
+            need == Access::Write && !bit(entry, 7),
+            EntryFault::NotDirty,
+        ),
+    ];
+    end_if_any(task, walk, &reasons)
+}
+
+/// Step 8: the page number of the entry, with the address's own bits below the page's size.
+fn page(scheme: &Scheme, level: u64, entry: u64, address: u64) -> Page {
+    let offset = bits(address, page_bits(scheme, level) - 1, 0);
+    Page {
+        address: page_address(bits(entry, 53, 10)) | offset,
+        level,
+    }
+}
+
+/// Ends the walk by the first reason that holds.
+fn end_if_any(task: &mut Task, walk: Walk, reasons: &[(bool, EntryFault)]) -> Step<()> {
+    for (holds, reason) in reasons {
+        if *holds {
+            return Err(page_fault_of(task, walk, *reason));
+        }
+    }
+    Ok(())
+}
+
+/// 01, The two walks: page faults and guest page faults follow the original access.
+fn page_fault_of(task: &mut Task, walk: Walk, reason: EntryFault) -> Answer {
+    let original = task.request.access;
+    (task.see)(Mark::Entry(walk, reason));
+    (task.see)(Mark::PageFault(walk, original));
+    let (cause, stage) = match walk {
+        Walk::First => (page_fault(original), Stage::First),
+        _ => (guest_page_fault(original), Stage::Second),
+    };
+    Answer::Fault { cause, stage }
+}
+
+/// 01, The two walks: access faults follow the original access, but 265 inside the process
+/// directory's walk (D1).
+fn violation_of(task: &mut Task, walk: Walk) -> Answer {
+    let original = task.request.access;
+    (task.see)(Mark::Entry(walk, EntryFault::LoadViolation));
+    (task.see)(Mark::Violation(walk, original));
+    let (cause, stage) = match walk {
+        Walk::First => (access_fault(original), Stage::First),
+        Walk::SecondFinal | Walk::SecondForFirst => (access_fault(original), Stage::Second),
+        Walk::SecondForProcess => {
+            task.note(Point::F265Second);
+            (265, Stage::ProcessDirectory)
+        }
+    };
+    Answer::Fault { cause, stage }
+}
+
+/// 01, Directories: an address of 2^56 or more that no stage translates is an access fault.
+pub fn check_untranslated(task: &mut Task, point: Point) -> Step<()> {
+    if task.request.address >= 1 << 56 {
+        task.note(point);
+        return fault(access_fault(task.request.access), Stage::Directory);
+    }
+    Ok(())
+}

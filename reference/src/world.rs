@@ -1,0 +1,664 @@
+//! Valid tables for the generator: directories, contexts, page tables, message tables and files.
+
+use crate::layout::{leaf, pointer, root_of, Layout, ALL_FLAGS};
+use crate::paging::{Scheme, SV39, SV39X4};
+use crate::random::Random;
+
+/// A table entry that the list's requests may pass, for the damages.
+#[derive(Clone, Copy, Debug)]
+pub enum Place {
+    DirectoryPointer(u64),
+    DeviceContext(u64),
+    ProcessPointer(u64),
+    ProcessContext(u64),
+    PageEntry { address: u64, level: u64 },
+    MessageEntry(u64),
+}
+
+/// A second stage: its root, and how the window's own pages are mapped for tables.
+#[derive(Clone, Copy, Debug)]
+pub struct Space {
+    pub root: u64,
+    pub table_level: u64,
+    pub table_base: u64,
+}
+
+/// The message context of a device.
+#[derive(Clone, Copy, Debug, Default)]
+pub struct Messages {
+    pub mask: u64,
+    pub pattern: u64,
+    pub table: u64,
+    pub page: u64,
+}
+
+/// An address that a device may use, with what its entries ask.
+#[derive(Clone, Copy, Debug)]
+pub struct Target {
+    pub device: u64,
+    pub process: Option<u64>,
+    pub supervisor: bool,
+    pub address: u64,
+    /// The size of the region that is mapped alike.
+    pub span: u64,
+    /// The file of a message entry, where the target is one.
+    pub message: Option<u64>,
+}
+
+/// The tables of one list.
+pub struct World {
+    pub random: Random,
+    pub layout: Layout,
+    pub mode: u64,
+    pub root: u64,
+    pub free: Vec<u64>,
+    pub places: Vec<Place>,
+    pub targets: Vec<Target>,
+    pub files: Vec<u64>,
+    high_ids: [u64; 2],
+}
+
+/// The size of a page of a level.
+pub fn size(level: u64) -> u64 {
+    4_096 << (9 * level)
+}
+
+fn align_down(address: u64, alignment: u64) -> u64 {
+    address - address % alignment
+}
+
+/// The reverse of extract: spreads the bits of a value over the ones of a mask.
+fn deposit(value: u64, mask: u64) -> u64 {
+    let mut result = 0;
+    let mut count = 0;
+    for place in 0..64 {
+        if mask >> place & 1 == 1 {
+            result |= (value >> count & 1) << place;
+            count += 1;
+        }
+    }
+    result
+}
+
+impl World {
+    /// A window with a directory and up to three devices.
+    pub fn new(mut random: Random) -> World {
+        let pages = match random.below(100) {
+            0..=1 => 0,
+            2..=3 => random.between(1, 6),
+            _ => random.between(16, 34),
+        };
+        let start = choose_start(&mut random, pages);
+        let layout = Layout::new(start, pages);
+        let mut free: Vec<u64> = (0..pages).map(|page| start + page * 4_096).collect();
+        for place in (1..free.len()).rev() {
+            let other = random.below(place as u64 + 1) as usize;
+            free.swap(place, other);
+        }
+        let mode = random.between(2, 4);
+        let high_ids = [random.pick(&[0, 1, 511]), random.below(512)];
+        let mut world = World {
+            random,
+            layout,
+            mode,
+            root: 0,
+            free,
+            places: Vec::new(),
+            targets: Vec::new(),
+            files: Vec::new(),
+            high_ids,
+        };
+        world.fill();
+        world
+    }
+
+    fn fill(&mut self) {
+        self.add_files();
+        let space = self.add_space();
+        let other = if self.random.chance(15) {
+            self.add_space()
+        } else {
+            space
+        };
+        self.root = self.page().unwrap_or(self.layout.start) >> 12;
+        for _ in 0..self.random.between(1, 3) {
+            let chosen = if self.random.chance(80) { space } else { other };
+            self.add_device(chosen);
+        }
+        self.fill_rest();
+    }
+
+    /// A free page, or none.
+    pub fn page(&mut self) -> Option<u64> {
+        self.free.pop()
+    }
+
+    /// Four free pages on 16 KiB.
+    fn second_stage_root(&mut self) -> Option<u64> {
+        let roots: Vec<u64> = self
+            .free
+            .iter()
+            .copied()
+            .filter(|page| page % 16_384 == 0)
+            .filter(|page| (1..4).all(|n| self.free.contains(&(page + n * 4_096))))
+            .collect();
+        let root = self.random.choose(&roots)?;
+        self.free.retain(|page| *page & !0x3FFF != root);
+        Some(root)
+    }
+
+    /// One or two pages of interrupt files, at times with bits set.
+    fn add_files(&mut self) {
+        for _ in 0..self.random.between(1, 2) {
+            let Some(page) = self.page() else { return };
+            let some_set = self.random.chance(40);
+            for file in 0..8 {
+                self.files.push(page + file * 512);
+            }
+            for word in 0..512 {
+                if some_set && self.random.chance(50) {
+                    let value = self.random.number() & self.random.number();
+                    self.layout.put(page + word * 8, value);
+                }
+            }
+        }
+    }
+
+    /// At times the pages left over aren't zero.
+    fn fill_rest(&mut self) {
+        if !self.random.chance(10) {
+            return;
+        }
+        for page in self.free.clone() {
+            for word in 0..512 {
+                let value = self.random.number() & self.random.number();
+                self.layout.put(page + word * 8, value | 1);
+            }
+        }
+    }
+
+    /// A second stage with its root.
+    fn add_space(&mut self) -> Option<Space> {
+        let root = self.second_stage_root()?;
+        let table_level = self.random.below(3);
+        let top = self.random.pick(&[0, 1, 3, 511, 512, 2_044, 2_046]);
+        let middle = self.random.pick(&[0, 1, 510]);
+        let table_base = match table_level {
+            0 => top * size(2) + middle * size(1),
+            1 => top * size(2) + middle.min(500) * size(1),
+            _ => top.min(2_046) * size(2),
+        };
+        Some(Space {
+            root,
+            table_level,
+            table_base,
+        })
+    }
+
+    /// The guest address at which a page of the window is mapped for tables.
+    pub fn guest_of(&mut self, space: &Space, page: u64) -> u64 {
+        let unit = size(space.table_level);
+        let low = align_down(self.layout.start, unit);
+        let guest = space.table_base + (page - low);
+        let flags = self.random.pick(&[ALL_FLAGS, 0x53, 0x57, 0x5B, 0xF3]);
+        let (from, to) = (align_down(guest, unit), align_down(page, unit));
+        self.map(
+            &SV39X4,
+            space.root,
+            None,
+            from,
+            space.table_level,
+            leaf(to, flags),
+        );
+        guest
+    }
+
+    /// The page of the window behind a guest address of the table region.
+    fn page_behind(&self, space: &Space, guest: u64) -> u64 {
+        let low = align_down(self.layout.start, size(space.table_level));
+        guest.wrapping_sub(space.table_base).wrapping_add(low)
+    }
+
+    /// Puts an entry for an address at a level, with the tables above it. An entry that is there
+    /// stays. Says whether the entry put, or an equal one, stands.
+    pub fn map(
+        &mut self,
+        scheme: &Scheme,
+        root: u64,
+        space: Option<&Space>,
+        address: u64,
+        level: u64,
+        entry: u64,
+    ) -> bool {
+        let mut table = root;
+        let mut at = scheme.levels - 1;
+        loop {
+            let place = table + scheme.index(address, at) * 8;
+            let present = self.layout.get(place);
+            if at == level {
+                if present == 0 {
+                    self.layout.put(place, entry);
+                    self.places.push(Place::PageEntry {
+                        address: place,
+                        level,
+                    });
+                }
+                return present == 0 || present == entry;
+            }
+            table = match present {
+                0 => match self.add_table(space, place, at) {
+                    Some(next) => next,
+                    None => return false,
+                },
+                _ if present & 0xE != 0 => return false,
+                _ => self.follow(space, present),
+            };
+            at -= 1;
+        }
+    }
+
+    /// A new table under a place; its page, or none.
+    fn add_table(&mut self, space: Option<&Space>, place: u64, level: u64) -> Option<u64> {
+        let page = self.page()?;
+        let named = match space {
+            Some(space) => self.guest_of(space, page),
+            None => page,
+        };
+        let software = self.random.pick(&[0, 0, 0, 0x20, 0x100, 0x300]);
+        self.layout.put(place, pointer(named) | software);
+        self.places.push(Place::PageEntry {
+            address: place,
+            level,
+        });
+        Some(page)
+    }
+
+    /// The page of the window that a pointer names.
+    fn follow(&self, space: Option<&Space>, entry: u64) -> u64 {
+        let named = (entry >> 10 & ((1 << 44) - 1)) << 12;
+        match space {
+            Some(space) => self.page_behind(space, named),
+            None => named,
+        }
+    }
+
+    /// A device: its context, its processes, its page tables and its targets.
+    fn add_device(&mut self, space: Option<Space>) {
+        let id = self.device_id();
+        let Some(context) = self.context_place(id) else {
+            return;
+        };
+        let space = if self.random.chance(78) { space } else { None };
+        let messages = match space {
+            Some(_) if self.random.chance(85) => self.add_message_table(),
+            _ => None,
+        };
+        let mut words = self.context_noise();
+        if let Some(space) = space {
+            words[1] = root_of(8, space.root) | self.random.of_width(16) << 44;
+        }
+        if let Some(messages) = messages {
+            words[4] = root_of(1, messages.table);
+            words[5] = messages.mask;
+            words[6] = messages.pattern;
+        }
+        let device = DevicePlan {
+            id,
+            space,
+            messages,
+        };
+        self.choose_first_stage(&device, &mut words);
+        for (number, word) in words.iter().enumerate() {
+            self.layout.put(context + 8 * number as u64, *word);
+        }
+        self.places.push(Place::DeviceContext(context));
+    }
+
+    /// The device's own first stage, a Bare process directory, or PD8, PD17 or PD20.
+    fn choose_first_stage(&mut self, device: &DevicePlan, words: &mut [u64; 8]) {
+        match self.random.below(100) {
+            0..=39 => words[3] = self.add_first_stage(device, None, false),
+            40..=47 => {
+                words[0] |= 1 << 5 | self.random.below(2) << 9;
+                words[3] = self.random.of_width(44);
+                for process in [None, Some(0), Some(0x345), Some(0xF_FFFF)] {
+                    self.add_targets(device, process, process == Some(0x345), None);
+                }
+            }
+            _ => {
+                words[0] |= 1 << 5 | self.random.below(2) << 9;
+                words[3] = self.add_process_directory(device);
+                self.add_targets(device, None, false, None);
+            }
+        }
+    }
+
+    /// A valid context with both stages Bare, and noise where no mode gives a field a meaning.
+    fn context_noise(&mut self) -> [u64; 8] {
+        let mut words = [0; 8];
+        words[0] = 1 | self.random.below(2) << 4;
+        if self.random.chance(30) {
+            words[1] = self.random.of_width(60);
+            words[4] = self.random.of_width(44);
+            words[5] = self.random.of_width(29);
+            words[6] = self.random.of_width(29);
+        }
+        words[2] = self.random.of_width(20) << 12;
+        words
+    }
+
+    /// A device number within the directory's levels; the upper indices repeat.
+    fn device_id(&mut self) -> u64 {
+        let low = self.random.below(64);
+        let middle = self.high_ids[self.random.below(2) as usize];
+        let high = self.high_ids[1];
+        match self.mode {
+            2 => low,
+            3 => middle << 6 | low,
+            _ => high << 15 | middle << 6 | low,
+        }
+    }
+
+    /// The place of a device's context, with the directory above it.
+    fn context_place(&mut self, id: u64) -> Option<u64> {
+        let ddi = [id & 63, id >> 6 & 511, id >> 15 & 511];
+        let mut table = self.root << 12;
+        for level in (1..self.mode - 1).rev() {
+            let place = table + ddi[level as usize] * 8;
+            if self.layout.get(place) == 0 {
+                let page = self.page()?;
+                self.layout.put(place, pointer(page));
+                self.places.push(Place::DirectoryPointer(place));
+            }
+            table = self.layout.get(place) >> 10 << 12;
+        }
+        Some(table + ddi[0] * 64)
+    }
+
+    /// PD8, PD17 or PD20 with one to three processes; gives pdtp.
+    fn add_process_directory(&mut self, device: &DevicePlan) -> u64 {
+        let levels = self.random.between(1, 3);
+        let Some(root) = self.page() else { return 0 };
+        let width = [8, 17, 20][levels as usize - 1];
+        let mut processes = vec![0, self.random.of_width(width)];
+        processes.push(self.random.pick(&[1, 255, (1 << width) - 1]));
+        processes.dedup();
+        processes.truncate(self.random.between(1, 3) as usize);
+        for process in processes {
+            if let Some(place) = self.process_place(device, root, levels, process) {
+                self.add_process(device, place, process);
+            }
+        }
+        let named = self.table_name(device, root);
+        root_of(levels, named)
+    }
+
+    /// The address by which a device's tables name a page of the window.
+    fn table_name(&mut self, device: &DevicePlan, page: u64) -> u64 {
+        match device.space {
+            Some(space) => self.guest_of(&space, page),
+            None => page,
+        }
+    }
+
+    /// The place of a process context, with the directory above it.
+    fn process_place(
+        &mut self,
+        device: &DevicePlan,
+        root: u64,
+        levels: u64,
+        process: u64,
+    ) -> Option<u64> {
+        let pdi = [process & 255, process >> 8 & 511, process >> 17 & 7];
+        let mut table = root;
+        for level in (1..levels).rev() {
+            let place = table + pdi[level as usize] * 8;
+            if self.layout.get(place) == 0 {
+                let page = self.page()?;
+                let named = self.table_name(device, page);
+                self.layout.put(place, pointer(named));
+                self.places.push(Place::ProcessPointer(place));
+            }
+            let entry = self.layout.get(place);
+            table = self.follow(device.space.as_ref(), entry);
+        }
+        Some(table + pdi[0] * 16)
+    }
+
+    /// One process context with its first stage.
+    fn add_process(&mut self, device: &DevicePlan, place: u64, process: u64) {
+        if self.layout.get(place) != 0 {
+            return;
+        }
+        let ens = self.random.chance(60);
+        let sum = self.random.below(2);
+        let ta = 1 | u64::from(ens) << 1 | sum << 2 | self.random.of_width(20) << 12;
+        let fsc = self.add_first_stage(device, Some(process), ens);
+        self.layout.put(place, ta);
+        self.layout.put(place + 8, fsc);
+        self.places.push(Place::ProcessContext(place));
+    }
+
+    /// A first stage, Bare or Sv39, with its targets; gives iosatp.
+    fn add_first_stage(&mut self, device: &DevicePlan, process: Option<u64>, ens: bool) -> u64 {
+        let root = if self.random.chance(25) {
+            None
+        } else {
+            self.page()
+        };
+        self.add_targets(device, process, ens, root);
+        match root {
+            Some(page) => root_of(8, self.table_name(device, page)),
+            None => self.random.of_width(44),
+        }
+    }
+
+    /// Some targets of one address space.
+    fn add_targets(
+        &mut self,
+        device: &DevicePlan,
+        process: Option<u64>,
+        ens: bool,
+        first: Option<u64>,
+    ) {
+        for _ in 0..self.random.between(1, 3) {
+            let supervisor = ens && self.random.chance(50);
+            let message = match device.messages {
+                Some(messages) if self.random.chance(50) => Some(self.add_message_entry(&messages)),
+                _ => None,
+            };
+            let (guest, second_span) = match message {
+                Some((page, _)) => (page, 4_096),
+                None => self.add_second_target(device),
+            };
+            let (address, span) = match first {
+                Some(root) => self.add_first_target(device, root, guest, second_span, supervisor),
+                None => (guest, second_span),
+            };
+            self.targets.push(Target {
+                device: device.id,
+                process,
+                supervisor,
+                address,
+                span,
+                message: message.map(|(_, file)| file),
+            });
+        }
+    }
+
+    /// A guest address that the second stage maps, or a physical one where it is Bare.
+    fn add_second_target(&mut self, device: &DevicePlan) -> (u64, u64) {
+        let Some(space) = device.space else {
+            let level = self.random.below(3);
+            let address = align_down(self.random.of_width(56), size(level));
+            return (address, size(level));
+        };
+        let mut found = (0, 4_096);
+        // An attempt fails where no page is left, or another page stands in the way.
+        for _ in 0..3 {
+            let level = self.random.below(3);
+            let top = self.random.pick(&[0, 2, 2, 5, 511, 512, 2_047, 2_047]);
+            let middle = self.random.pick(&[0, 1, 511]);
+            let low = self.random.pick(&[0, 9, 511]);
+            let guest = top * size(2) + middle * size(1) + low * size(0);
+            let guest = align_down(guest, size(level));
+            let target = align_down(self.random.of_width(56), size(level));
+            let entry = leaf(target, self.leaf_flags(true));
+            found = (guest, size(level));
+            if self.map(&SV39X4, space.root, None, guest, level, entry) {
+                break;
+            }
+        }
+        found
+    }
+
+    /// An address that the first stage maps to a guest address, and the span that is mapped alike.
+    fn add_first_target(
+        &mut self,
+        device: &DevicePlan,
+        root: u64,
+        guest: u64,
+        second_span: u64,
+        supervisor: bool,
+    ) -> (u64, u64) {
+        let mut found = (0, 4_096);
+        for _ in 0..3 {
+            let level = self.random.below(3);
+            let own = size(level);
+            // Where the first stage's page is the smaller one, it may lie anywhere in the other.
+            let guest = guest + own * self.random.below(second_span / own);
+            let top = self.random.pick(&[0, 1, 255, 255, 256, 511]);
+            let middle = self.random.pick(&[0, 1, 511]);
+            let low = self.random.pick(&[0, 7, 511]);
+            let base = align_down(top * size(2) + middle * size(1) + low * size(0), own);
+            let high = if top >= 256 { u64::MAX << 39 } else { 0 };
+            let flags = self.leaf_flags(!supervisor);
+            let entry = leaf(align_down(guest, own), flags);
+            found = ((base + guest % own) | high, own.min(second_span));
+            if self.map(&SV39, root, device.space.as_ref(), base, level, entry) {
+                break;
+            }
+        }
+        found
+    }
+
+    /// The low bits of a leaf: mostly all permissions, at times fewer; RSW and G vary.
+    fn leaf_flags(&mut self, user: bool) -> u64 {
+        let permissions = match self.random.below(100) {
+            0..=79 => 0xE,
+            80..=84 => 0x2,
+            85..=89 => 0x6,
+            90..=94 => 0xA,
+            _ => 0x8,
+        };
+        let marks = self.random.pick(&[0xC0, 0xC0, 0xC0, 0xC0, 0xC0, 0x40]);
+        let software = self.random.pick(&[0, 0, 0x20, 0x100, 0x200, 0x320]);
+        1 | permissions | marks | software | u64::from(user) << 4
+    }
+
+    /// A message table: a mask, a pattern, and a page of the window that holds entries.
+    fn add_message_table(&mut self) -> Option<Messages> {
+        let page = self.page()?;
+        let mask = choose_mask(&mut self.random);
+        let alignment = (16u64 << mask.count_ones()).max(4_096);
+        Some(Messages {
+            mask,
+            pattern: self.random.of_width(29),
+            table: align_down(page, alignment),
+            page,
+        })
+    }
+
+    /// One message entry: the guest page that leads to it, and the file that it names.
+    fn add_message_entry(&mut self, messages: &Messages) -> (u64, u64) {
+        let entries = 1u64 << messages.mask.count_ones();
+        let slot = self.random.below(entries.min(256));
+        let place = messages.page + slot * 16;
+        let number = (place - messages.table) / 16;
+        let page = deposit(number, messages.mask) | (messages.pattern & !messages.mask);
+        let file = self.choose_file();
+        if self.layout.get(place) == 0 {
+            let to_file = self.random.chance(75);
+            let (first, second) = if to_file {
+                let low = self.random.of_width(10);
+                let bit10 = self.random.below(2) << 60;
+                let notice = self.random.of_width(44) << 10;
+                ((file / 512) << 7 | 3, low | bit10 | notice)
+            } else {
+                (self.random.of_width(44) << 10 | 7, self.random.number())
+            };
+            self.layout.put(place, first);
+            self.layout.put(place + 8, second);
+            self.places.push(Place::MessageEntry(place));
+        }
+        let named = (self.layout.get(place) >> 7 & ((1 << 47) - 1)) * 512;
+        (page << 12, named)
+    }
+
+    /// A file for a message entry: mostly a page of files, at times any place, also outside.
+    fn choose_file(&mut self) -> u64 {
+        let start = self.layout.start;
+        let length = self.layout.bytes.len() as u64;
+        let anywhere = start + self.random.below(length / 512) * 512;
+        match self.random.below(100) {
+            0..=74 => self.random.choose(&self.files.clone()).unwrap_or(0),
+            75..=87 => anywhere,
+            88..=90 => (start + length) % (1 << 56),
+            91..=93 => start.saturating_sub(512),
+            94..=96 => self.random.below(start / 512 + 1) * 512,
+            _ => self.random.of_width(47) * 512,
+        }
+    }
+}
+
+/// What the tables of a device have in common.
+#[derive(Clone, Copy)]
+struct DevicePlan {
+    id: u64,
+    space: Option<Space>,
+    messages: Option<Messages>,
+}
+
+/// A window's start: zero, the very top, across a large page's edge, or anywhere.
+fn choose_start(random: &mut Random, pages: u64) -> u64 {
+    let top = (1 << 44) - pages;
+    let page = match random.below(100) {
+        0..=14 => 0,
+        15..=29 => top,
+        30..=39 => (random.of_width(20) << 18).saturating_sub(random.below(pages + 1)),
+        40..=49 => (random.of_width(29) << 9).saturating_sub(random.below(pages + 1)),
+        50..=64 => random.of_width(29),
+        _ => random.of_width(44),
+    };
+    page.min(top) << 12
+}
+
+/// A mask: no ones, few, many; dense and spread.
+fn choose_mask(random: &mut Random) -> u64 {
+    let full = (1u64 << 29) - 1;
+    match random.below(100) {
+        0..=11 => 0,
+        12..=23 => 1 << random.below(29),
+        24..=43 => {
+            let ones = random.between(1, 8);
+            ((1 << ones) - 1) << random.below(29 - ones)
+        }
+        44..=63 => spread(random, 8),
+        64..=79 => {
+            let ones = random.between(9, 16);
+            ((1 << ones) - 1) << random.below(29 - ones)
+        }
+        80..=92 => spread(random, 14) | spread(random, 9),
+        93..=97 => random.number() & full,
+        _ => full,
+    }
+}
+
+/// Some single bits of a mask.
+fn spread(random: &mut Random, bits: u64) -> u64 {
+    let mut mask = 0;
+    for _ in 0..random.between(2, bits) {
+        mask |= 1 << random.below(29);
+    }
+    mask
+}
