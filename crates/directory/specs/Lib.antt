@@ -2,3 +2,4 @@ pub mod Pointers
 pub mod Fields
 pub mod Device
 pub mod Process
+pub mod Sound

@@ -1,6 +1,24 @@
 // The device directory with its contexts, and the process directory with its.
 use causes::FaultInfo;
+use causes::Stage;
+use memory::Load;
 use paging::PageTable;
+ghost use mathlib.Core.Path.{_≡_};
+ghost use mathlib.Core.List.{[], _∷_};
+ghost use mathlib.Core.Bool.{_&&_, not};
+ghost use lib.Dec.{eqb, leb};
+ghost use lib.ListN.{length};
+ghost use Prim.Native.Nat.{_+_, _-_, _%_, _<_, _≤_, _^_};
+ghost use Rattle.memory.specs.Bits.{bits, bit as bitOf, anySet};
+ghost use Rattle.memory.specs.Choice.{any};
+ghost use Rattle.memory.specs.Window.{doubleword, memory};
+ghost use Rattle.memory.specs.Walk.{run};
+ghost use Rattle.paging.specs.Stages.{direct};
+ghost use Rattle.directory.specs.Pointers.{loadFault, invalid as invalidOf, misconfigured as misconfiguredOf, pointerOf, pointers, tooWide};
+ghost use Rattle.directory.specs.Fields.{modeOf, pageOf, bareOf, validMode};
+ghost use Rattle.directory.specs.Device.{pdtv, dpe, deviceIndex, deviceMisconfigured, checkedDevice, deviceContextAt, deviceContextOf};
+ghost use Rattle.directory.specs.Process.{processIndex};
+ghost use Rattle.directory.specs.Sound.{Near, Masked};
 
 // The two directories.
 pub enum Tree {
@@ -12,6 +30,18 @@ pub enum Tree {
 pub enum Pointed {
     Next(u64),
     Fault(FaultInfo),
+}
+
+impl Pointed {
+    // The fault, where it is one.
+    fn fault(self) -> FaultInfo
+        ensures { λ r. ⌜ ((f : FaultInfo) → self ≡ Pointed.Fault f → r ≡ f) ⌝ }
+    {
+        match self {
+            Pointed::Fault(f) => f,
+            Pointed::Next(_) => load_fault(Tree::Device),
+        }
+    }
 }
 
 // 01: "The context is 64 bytes in the order tc, iohgatp, ta, fsc, msiptp, mask, pattern, reserved".
@@ -52,4 +82,273 @@ pub enum ProcessId {
 pub enum PageTableInfo {
     Use(PageTable),
     Fault(FaultInfo),
+}
+
+// Bits high to low of e, as a number.
+fn field(e: u64, high: u64, low: u64) -> u64
+    requires { ⌜ (low ≤ high) × (high < low + 63) × (low < 64) ⌝ }
+    ensures { λ r. ⌜ r ≡ bits e high low ⌝ }
+{
+    (e >> low) % (1 << (high + 1 - low))
+}
+
+// Some bit from high to low is 1.
+fn any_set(e: u64, high: u64, low: u64) -> bool
+    requires { ⌜ (low ≤ high) × (high < low + 63) × (low < 64) ⌝ }
+    ensures { λ r. ⌜ r ≡ anySet e high low ⌝ }
+{
+    field(e, high, low) != 0
+}
+
+// The same for all bits of e.
+fn nonzero(e: u64) -> bool
+    ensures { λ r. ⌜ r ≡ anySet e 63 0 ⌝ }
+{
+    e != 0
+}
+
+// Bit k of e is 1.
+fn bit(e: u64, k: u64) -> bool
+    requires { ⌜ k < 64 ⌝ }
+    ensures { λ r. ⌜ r ≡ bitOf e k ⌝ }
+{
+    (e >> k) % 2 == 1
+}
+
+fn load_fault(t: Tree) -> FaultInfo
+    ensures { λ r. ⌜ r ≡ loadFault t ⌝ }
+{
+    match t {
+        Tree::Device => FaultInfo {
+            cause: 257,
+            stage: Stage::Directory,
+        },
+        Tree::Process => FaultInfo {
+            cause: 265,
+            stage: Stage::ProcessDirectory,
+        },
+    }
+}
+
+fn invalid(t: Tree) -> FaultInfo
+    ensures { λ r. ⌜ r ≡ invalidOf t ⌝ }
+{
+    match t {
+        Tree::Device => FaultInfo {
+            cause: 258,
+            stage: Stage::Directory,
+        },
+        Tree::Process => FaultInfo {
+            cause: 266,
+            stage: Stage::ProcessDirectory,
+        },
+    }
+}
+
+fn misconfigured(t: Tree) -> FaultInfo
+    ensures { λ r. ⌜ r ≡ misconfiguredOf t ⌝ }
+{
+    match t {
+        Tree::Device => FaultInfo {
+            cause: 259,
+            stage: Stage::Directory,
+        },
+        Tree::Process => FaultInfo {
+            cause: 267,
+            stage: Stage::ProcessDirectory,
+        },
+    }
+}
+
+// A non-leaf entry as it was loaded.
+fn pointer(t: Tree, v: Load) -> Pointed
+    ensures { λ r. ⌜ (r ≡ pointerOf t v) × Near r ⌝ }
+{
+    let Load::Value(e) = v else {
+        return Pointed::Fault(load_fault(t));
+    };
+    if !bit(e, 0) {
+        return Pointed::Fault(invalid(t));
+    }
+    if any_set(e, 9, 1) | any_set(e, 63, 54) {
+        return Pointed::Fault(misconfigured(t));
+    }
+    Pointed::Next(field(e, 53, 10))
+}
+
+fn device_index(d: u64, n: u64) -> u64
+    ensures { λ r. ⌜ (r ≡ deviceIndex d n) × (r < 512) ⌝ }
+{
+    if n == 0 {
+        return field(d, 5, 0);
+    }
+    if n == 1 {
+        return field(d, 14, 6);
+    }
+    field(d, 23, 15)
+}
+
+fn process_index(p: u64, n: u64) -> u64
+    ensures { λ r. ⌜ (r ≡ processIndex p n) × (r < 512) ⌝ }
+{
+    if n == 0 {
+        return field(p, 7, 0);
+    }
+    if n == 1 {
+        return field(p, 16, 8);
+    }
+    field(p, 19, 17)
+}
+
+// An index above the level count isn't zero.
+pub fn too_wide(levels: u64, index1: u64, index2: u64) -> bool
+    ensures { λ r. ⌜ r ≡ tooWide levels index1 index2 ⌝ }
+{
+    ((levels <= 1) & (index1 != 0)) | ((levels <= 2) & (index2 != 0))
+}
+
+// From the root to the table of contexts.
+fn device_table(levels: u64, root: u64, d: u64, start: u64, window: &[u8]) -> Pointed
+    requires { ⌜ root < 2 ^ 44 ⌝ }
+    ensures { λ r. ⌜ (r ≡ run (memory start (now (window .entry))) (pointers Tree.Device (deviceIndex d) direct (levels - 1) root)) × Near r ⌝ }
+{
+    let mut left = levels;
+    let mut table = root;
+    while 1 < left {
+        left -= 1;
+        let at = table * 4096 + 8 * device_index(d, left);
+        let p = pointer(Tree::Device, memory::load64(start, window, at));
+        let Pointed::Next(next) = p else {
+            return p;
+        };
+        table = next;
+    }
+    Pointed::Next(table)
+}
+
+fn mode(w: u64) -> u64
+    ensures { λ r. ⌜ r ≡ modeOf w ⌝ }
+{
+    w >> 60
+}
+
+fn page(w: u64) -> u64
+    ensures { λ r. ⌜ (r ≡ pageOf w) × (r < 2 ^ 44) ⌝ }
+{
+    field(w, 43, 0)
+}
+
+fn bare(w: u64) -> bool
+    ensures { λ r. ⌜ r ≡ bareOf w ⌝ }
+{
+    mode(w) == 0
+}
+
+fn valid_mode(w: u64) -> bool
+    ensures { λ r. ⌜ r ≡ validMode w ⌝ }
+{
+    bare(w) | (mode(w) == 8)
+}
+
+// Reserved bits of the doublewords that hold control and attributes.
+fn control_reserved(c: DeviceContext) -> bool
+    ensures { λ r. ⌜ r ≡ any (anySet (c .tc) 3 1 ∷ anySet (c .tc) 8 6 ∷ anySet (c .tc) 63 10 ∷ anySet (c .ta) 11 0 ∷ anySet (c .ta) 63 32 ∷ []) ⌝ }
+{
+    any_set(c.tc, 3, 1)
+        | any_set(c.tc, 8, 6)
+        | any_set(c.tc, 63, 10)
+        | any_set(c.ta, 11, 0)
+        | any_set(c.ta, 63, 32)
+}
+
+// Reserved bits of the doublewords that hold tables, mask and pattern.
+fn table_reserved(c: DeviceContext) -> bool
+    ensures { λ r. ⌜ r ≡ any (anySet (c .fsc) 59 44 ∷ anySet (c .msiptp) 59 44 ∷ anySet (c .mask) 63 29 ∷ anySet (c .pattern) 63 29 ∷ anySet (c .reserved) 63 0 ∷ []) ⌝ }
+{
+    any_set(c.fsc, 59, 44)
+        | any_set(c.msiptp, 59, 44)
+        | any_set(c.mask, 63, 29)
+        | any_set(c.pattern, 63, 29)
+        | nonzero(c.reserved)
+}
+
+// A first stage, or a process directory, that can't be.
+fn first_wrong(c: DeviceContext) -> bool
+    ensures { λ r. ⌜ r ≡ any ((pdtv c && not (leb (modeOf (c .fsc)) 3)) ∷ (not (pdtv c) && not (validMode (c .fsc))) ∷ (not (pdtv c) && dpe c) ∷ []) ⌝ }
+{
+    if bit(c.tc, 5) {
+        return 3 < mode(c.fsc);
+    }
+    if bit(c.tc, 9) {
+        return true;
+    }
+    !valid_mode(c.fsc)
+}
+
+// A second stage or a message table that can't be.
+fn second_wrong(c: DeviceContext) -> bool
+    ensures { λ r. ⌜ r ≡ any (not (validMode (c .iohgatp)) ∷ not (leb (modeOf (c .msiptp)) 1) ∷ (not (bareOf (c .iohgatp)) && not (eqb (pageOf (c .iohgatp) % 4) 0)) ∷ (bareOf (c .iohgatp) && not (bareOf (c .msiptp))) ∷ []) ⌝ }
+{
+    if bare(c.iohgatp) {
+        return !bare(c.msiptp);
+    }
+    !valid_mode(c.iohgatp) | (1 < mode(c.msiptp)) | (page(c.iohgatp) % 4 != 0)
+}
+
+fn device_misconfigured(c: DeviceContext) -> bool
+    ensures { λ r. ⌜ r ≡ deviceMisconfigured c ⌝ }
+{
+    control_reserved(c) | table_reserved(c) | first_wrong(c) | second_wrong(c)
+}
+
+// The context at an index of the lent bytes, whose first and last doublewords are known.
+fn words_at(bytes: &[u8], i: usize, tc: u64, reserved: u64) -> DeviceContext
+    requires { ⌜ i + 64 ≤ length (now bytes) ⌝ }
+    ensures { λ r. ⌜ r ≡ record { tc = tc; iohgatp = doubleword (now (bytes .entry)) (i + 8); ta = doubleword (now (bytes .entry)) (i + 16); fsc = doubleword (now (bytes .entry)) (i + 24); msiptp = doubleword (now (bytes .entry)) (i + 32); mask = doubleword (now (bytes .entry)) (i + 40); pattern = doubleword (now (bytes .entry)) (i + 48); reserved = reserved } ⌝ }
+{
+    DeviceContext {
+        tc: tc,
+        iohgatp: memory::doubleword_at(bytes, i + 8),
+        ta: memory::doubleword_at(bytes, i + 16),
+        fsc: memory::doubleword_at(bytes, i + 24),
+        msiptp: memory::doubleword_at(bytes, i + 32),
+        mask: memory::doubleword_at(bytes, i + 40),
+        pattern: memory::doubleword_at(bytes, i + 48),
+        reserved: reserved,
+    }
+}
+
+// The context at an address. Where its first and last doublewords can be read, so can all between.
+fn context_at(start: u64, window: &[u8], a: u64) -> DeviceFound
+    requires { ⌜ a < 2 ^ 60 ⌝ }
+    ensures { λ r. ⌜ (r ≡ run (memory start (now (window .entry))) (deviceContextAt a)) × Masked r ⌝ }
+{
+    let first = memory::load64(start, window, a);
+    let Load::Value(tc) = first else {
+        return DeviceFound::Fault(load_fault(Tree::Device));
+    };
+    if !bit(tc, 0) {
+        return DeviceFound::Fault(invalid(Tree::Device));
+    }
+    let last = memory::load64(start, window, a + 56);
+    let Load::Value(reserved) = last else {
+        return DeviceFound::Fault(load_fault(Tree::Device));
+    };
+    let c = words_at(window, (a - start) as usize, tc, reserved);
+    if device_misconfigured(c) {
+        return DeviceFound::Fault(misconfigured(Tree::Device));
+    }
+    DeviceFound::Context(c)
+}
+
+// The context of a device, from the directory's root page and number of levels.
+pub fn device_context(levels: u64, root: u64, d: u64, start: u64, window: &[u8]) -> DeviceFound
+    requires { ⌜ (root < 2 ^ 44) × (levels < 5) ⌝ }
+    ensures { λ r. ⌜ (r ≡ run (memory start (now (window .entry))) (deviceContextOf levels root d)) × Masked r ⌝ }
+{
+    let p = device_table(levels, root, d, start, window);
+    let Pointed::Next(table) = p else {
+        return DeviceFound::Fault(p.fault());
+    };
+    context_at(start, window, table * 4096 + 64 * device_index(d, 0))
 }

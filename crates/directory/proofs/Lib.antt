@@ -1,0 +1,4 @@
+pub mod Tests
+pub mod Entries
+pub mod Checks
+pub mod Contexts

@@ -1,0 +1,23 @@
+-- What the numbers in an answer keep to, by cases: their users need it to form addresses.
+use Prim.Native.Nat.{_<_, _^_}
+use Rattle.directory.specs.declared.Pointed.{Pointed}
+use Rattle.directory.specs.declared.Pointed.the-variants.{Next, Fault}
+use Rattle.directory.specs.declared.DeviceFound.{DeviceFound}
+use Rattle.directory.specs.declared.DeviceFound.the-variants.{Context}
+use Rattle.directory.specs.declared.PageTableInfo.{PageTableInfo}
+use Rattle.directory.specs.declared.PageTableInfo.the-variants.{Use}
+
+-- the next table's page is one of 44 bits
+abbrev pub Near : Pointed → Type 0
+Near (Next page) = page < 2 ^ 44
+Near (Fault f) = Unit {0}
+
+-- a context's mask is one of guest page numbers
+abbrev pub Masked : DeviceFound → Type 0
+Masked (Context c) = c .mask < 2 ^ 52
+Masked (DeviceFound.Fault f) = Unit {0}
+
+-- a used table's root is a page of 44 bits
+abbrev pub Rooted : PageTableInfo → Type 0
+Rooted (Use t) = t .root < 2 ^ 44
+Rooted (PageTableInfo.Fault f) = Unit {0}
