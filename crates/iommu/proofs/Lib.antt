@@ -1,2 +1,4 @@
 pub mod Checks
 pub mod Filing
+pub mod Translation
+pub mod Finishing

@@ -34,10 +34,13 @@ isWrite Write = true
 isWrite Execute = false
 
 -- "Stored exactly when it is a 4-byte write at page offset 0 (little-endian) or 4 (big-endian) and the identity is at most 2,047"
-unfoldable pub storable : DeviceRequest → ℕ → Bool
-storable q d =
+unfoldable pub storableAs : DeviceRequest → ℕ → Bool
+storableAs q identity =
     isWrite (q .access)
-    && (eqb (q .length) 4 && ((eqb (q .address % 4096) 0 || eqb (q .address % 4096) 4) && leb (identityOf q d) 2047))
+    && (eqb (q .length) 4 && ((eqb (q .address % 4096) 0 || eqb (q .address % 4096) 4) && leb identity 2047))
+
+abbrev pub storable : DeviceRequest → ℕ → Bool
+storable q d = storableAs q (identityOf q d)
 
 -- the answer from what the tables say: "other accesses under M = 1 are discarded, before 2007 is looked at"
 unfoldable pub finish : ℕ → ℕ → DeviceRequest → ℕ → Outcome → Answer

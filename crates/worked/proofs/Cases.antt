@@ -15,13 +15,13 @@ use Rattle.interrupt_file.specs.Bit.{bitAt, raised, lowered}
 use Rattle.interrupt_file.specs.File.{isFile, pendingOf, afterStore, afterTake}
 use Rattle.iommu.specs.Refusals.{badWindow, requestRefusal}
 use Rattle.iommu.specs.Translate.{untranslated, isMessage, guestOf, stagesOf, directoryOf, translateOf}
-use Rattle.iommu.specs.Request.{storable, finish, requestOf, afterRequest}
+use Rattle.iommu.specs.Request.{storableAs, finish, requestOf, afterRequest}
 use Rattle.worked.specs.Layout.{window, settings}
 use Rattle.worked.specs.Table.{Agrees, table}
 use Rattle.worked.specs.Limits.{limits}
 
 pub cases : Agrees table
-unfolding onesIn ones memory legalOf indexOf entryOf allows mappedBy onLoad levelOf levels walkOf secondStageOf firstStageOf pointerOf pointers tooWide deviceMisconfigured deviceContextAt deviceContextOf processMisconfigured processContextAt processContextOf processTable firstTableOf recognised packed extract translateReserved recordReserved onNotice onTranslate onEntry messageOf bitAt raised lowered isFile pendingOf afterStore afterTake badWindow requestRefusal untranslated isMessage guestOf stagesOf directoryOf translateOf storable finish requestOf afterRequest window settings table
+unfolding onesIn ones memory legalOf indexOf entryOf allows mappedBy onLoad levelOf levels walkOf secondStageOf firstStageOf pointerOf pointers tooWide deviceMisconfigured deviceContextAt deviceContextOf processMisconfigured processContextAt processContextOf processTable firstTableOf recognised packed extract translateReserved recordReserved onNotice onTranslate onEntry messageOf bitAt raised lowered isFile pendingOf afterStore afterTake badWindow requestRefusal untranslated isMessage guestOf stagesOf directoryOf translateOf storableAs finish requestOf afterRequest window settings table
 cases = (refl, (refl, (refl, (refl, (refl, (refl, (refl, (refl, (refl, (refl, (refl, (refl, (refl, (refl, tt))))))))))))))
 
 pub limits-hold : Agrees limits
