@@ -52,13 +52,13 @@ one-bit start len f g m n hf hg lm ln p q =
     (e .0, same-identity m n (e .1) q)
 
 module _ (start : ℕ) (xs : List ℕ) (file n : ℕ) where
-  pub length-store : length (afterStore start xs file n) ≡ length xs
+  pub length-after-store : length (afterStore start xs file n) ≡ length xs
   unfolding afterStore
-  length-store = length-set xs _ _
+  length-after-store = length-set xs _ _
 
-  pub length-take : length (afterTake start xs file n) ≡ length xs
+  pub length-after-take : length (afterTake start xs file n) ≡ length xs
   unfolding afterTake
-  length-take = length-set xs _ _
+  length-after-take = length-set xs _ _
 
   pub pending-lt : pendingOf start xs file n < 2
   unfolding pendingOf
