@@ -1,5 +1,5 @@
 -- Laws of one bit of a number: what it is in the number with a bit set or clear, and the machine's `|` and `& !` of it. Assumes nothing.
-use Prim.Native.Nat.{ℕ, zero, suc, _+_, _-_, _*_, _/_, _%_, _^_, _≤_, _<_, min, max}
+use Prim.Native.Nat.{ℕ, zero, suc, _+_, _-_, _*_, _/_, _%_, _^_, _≤_, _<_}
 use mathlib.Core.Path.{_≡_, refl, ap, _∙_}
 use native.Mathlib.Nat.{pow-suc, mul-assoc, one-mul, mod-eq-of-lt}
 use native.Mathlib.Numerals.{one-add}

@@ -1,8 +1,8 @@
 -- A file's place in the window, and one bit of it changed by way of its doubleword. Assumes nothing.
-use Prim.Native.Nat.{ℕ, _+_, _-_, _*_, _/_, _%_, _≤_, _<_}
+use Prim.Native.Nat.{ℕ, _+_, _-_, _/_, _%_, _≤_, _<_}
 use mathlib.Core.Bool.{Bool, true, false, _&&_}
 use mathlib.Core.List.{List}
-use mathlib.Core.Path.{_≡_, refl, sym, ap, _∙_}
+use mathlib.Core.Path.{_≡_, refl, ap, _∙_}
 use native.Mathlib.Omega.{arith}
 use borrow.Author.Tests.{eqb-true, leb-true, eq-eqb, le-leb}
 use borrow.Rule.Slice.PartMut.{midOf, putMid, set-mid-at}
@@ -48,48 +48,42 @@ mid-set a n j f xs ys lj la e =
     let lm : j < length (midOf a n xs) = simp (length-take, length-drop) (omega arith) in
     rw (e, set-mid-at a n j xs _ lm, getD-take, getD-drop)
 
--- the index of an identity's doubleword, which lies in the file, and its eight bytes as they are lent
-abbrev pub indexOf : ℕ → ℕ → ℕ → ℕ
-indexOf start file n = file - start + 16 * (n / 64)
+-- the eight bytes at an index as they are lent, and the window when they are back
+abbrev lent : ℕ → List ℕ → List ℕ
+lent at xs = midOf at (at + 8 - at) xs
 
-pub dword-within : (start len file n : ℕ) → isFile start len file ≡ true → n < 2048 → indexOf start file n + 8 ≤ len
-dword-within start len file n e l = let f = file-at e in omega arith
+abbrev back : ℕ → List ℕ → List ℕ → List ℕ
+back at xs ys = putMid at (at + 8 - at) xs ys
 
-abbrev lent : ℕ → List ℕ → ℕ → ℕ → List ℕ
-lent start xs file n = midOf (indexOf start file n) (indexOf start file n + 8 - indexOf start file n) xs
-
-abbrev back : ℕ → List ℕ → ℕ → ℕ → List ℕ → List ℕ
-back start xs file n ys = putMid (indexOf start file n) (indexOf start file n + 8 - indexOf start file n) xs ys
-
-module _ (start : ℕ) (xs : List ℕ) (file n : ℕ) (e : isFile start (length xs) file ≡ true) (l : n < 2048) where
-  -- the identity's byte in the window, and its bit of that byte
-  byte-is : indexOf start file n + n % 64 / 8 ≡ placeOf file n - start
-  byte-is = let f = file-at e in omega arith
+-- the doubleword at an index is that of an identity
+module _ (start : ℕ) (xs : List ℕ) (file n at : ℕ) (h : start + at + n % 64 / 8 ≡ placeOf file n) (w : at + 8 ≤ length xs) where
+  byte-is : at + n % 64 / 8 ≡ placeOf file n - start
+  byte-is = omega arith
 
   bit-is : n % 64 % 8 ≡ n % 8
   bit-is = omega arith
 
-  changed : (f : ℕ → ℕ → ℕ) (ys : List ℕ) → ys ≡ set (lent start xs file n) (n % 64 / 8) (f (n % 64 % 8) (getD (lent start xs file n) (n % 64 / 8) 0))
-      → back start xs file n ys ≡ set xs (placeOf file n - start) (f (n % 8) (getD xs (placeOf file n - start) 0))
+  changed : (f : ℕ → ℕ → ℕ) (ys : List ℕ) → ys ≡ set (lent at xs) (n % 64 / 8) (f (n % 64 % 8) (getD (lent at xs) (n % 64 / 8) 0))
+      → back at xs ys ≡ set xs (placeOf file n - start) (f (n % 8) (getD xs (placeOf file n - start) 0))
   changed f ys q =
-      let i = indexOf start file n in
-      mid-set i (i + 8 - i) (n % 64 / 8) (f (n % 64 % 8)) xs ys (omega arith) (omega (arith, dword-within start (length xs) file n e l)) q
+      mid-set at (at + 8 - at) (n % 64 / 8) (f (n % 64 % 8)) xs ys (omega arith) (omega arith) q
       ∙ ap (λ i. set xs i (f (n % 64 % 8) (getD xs i 0))) byte-is
       ∙ ap (λ k. set xs (placeOf file n - start) (f k (getD xs (placeOf file n - start) 0))) bit-is
 
-  pub stored : (ys : List ℕ) → ys ≡ set (lent start xs file n) (n % 64 / 8) (raised (n % 64 % 8) (getD (lent start xs file n) (n % 64 / 8) 0))
-      → back start xs file n ys ≡ afterStore start xs file n
+  pub stored : (ys : List ℕ) → ys ≡ set (lent at xs) (n % 64 / 8) (raised (n % 64 % 8) (getD (lent at xs) (n % 64 / 8) 0))
+      → back at xs ys ≡ afterStore start xs file n
   unfolding afterStore
   stored ys q = changed raised ys q
 
-  pub taken : (ys : List ℕ) → ys ≡ set (lent start xs file n) (n % 64 / 8) (lowered (n % 64 % 8) (getD (lent start xs file n) (n % 64 / 8) 0))
-      → back start xs file n ys ≡ afterTake start xs file n
+  pub taken : (ys : List ℕ) → ys ≡ set (lent at xs) (n % 64 / 8) (lowered (n % 64 % 8) (getD (lent at xs) (n % 64 / 8) 0))
+      → back at xs ys ≡ afterTake start xs file n
   unfolding afterTake
   taken ys q = changed lowered ys q
 
-  pub was : (r : ℕ) → r ≡ bitAt (n % 64 % 8) (getD (lent start xs file n) (n % 64 / 8) 0) → r ≡ pendingOf start xs file n
+  pub was : (r : ℕ) → r ≡ bitAt (n % 64 % 8) (getD (lent at xs) (n % 64 / 8) 0) → r ≡ pendingOf start xs file n
   unfolding pendingOf
   was r q =
-      let i = indexOf start file n in
-      let lj : n % 64 / 8 < i + 8 - i = omega arith in
-      q ∙ rw (getD-take {A = ℕ} (i + 8 - i) _ (n % 64 / 8) 0 lj, getD-drop, byte-is, bit-is)
+      let l : n % 64 / 8 < at + 8 - at = omega arith in
+      q ∙ rw (getD-take {A = ℕ} (at + 8 - at) _ (n % 64 / 8) 0 l, getD-drop, byte-is, bit-is)
+
+pub ruleset changes = (stored, taken, was)

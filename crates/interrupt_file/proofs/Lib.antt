@@ -1,3 +1,5 @@
 pub mod Bits
 pub mod Files
 pub mod Reports
+pub mod Pending
+pub mod Doublewords

@@ -1,7 +1,7 @@
 -- A report's turn: one more pair, and its count. Assumes nothing.
 use Prim.Native.Nat.{ℕ, _+_, _*_, _≤_, _<_}
 use mathlib.Core.List.{List}
-use mathlib.Core.Path.{_≡_, refl, sym, ap, _∙_}
+use mathlib.Core.Path.{_≡_, refl, sym, _∙_}
 use native.Mathlib.Numerals.{add-one}
 use native.Mathlib.Omega.{arith}
 use lib.Count.{ones}
@@ -29,17 +29,17 @@ module _ (bytes : List ℕ) (at : ℕ) where
   none-read pairs l = record { turns = omega arith; long = l; reads = refl; counts = refl; small = omega arith }
 
   module _ {k count : ℕ} {pairs : List Pair} (r : Read bytes at k count pairs) where
-    pub one-more : (p e : ℕ) → k < 32 → p ≡ doubleword bytes (at + 16 * k) → e ≡ doubleword bytes (at + 16 * k + 8) → ones p ≤ 64
-        → Read bytes at (k + 1) (count + ones p) (set pairs k (record { pending = p; enable = e }))
+    pub one-more : (p e c : ℕ) → k < 32 → p ≡ doubleword bytes (at + 16 * k) → e ≡ doubleword bytes (at + 16 * k + 8) → (c ≡ ones p) × (c ≤ 64)
+        → Read bytes at (k + 1) (count + c) (set pairs k (record { pending = p; enable = e }))
     unfolding pairsOf countOf
-    one-more p e h hp he few =
+    one-more p e c h hp he hc =
         let l : k < length pairs = omega (arith, r .long) in
         record {
           turns = omega arith;
           long = length-set pairs k _ ∙ r .long;
           reads = rw (add-one, take-suc-set pairs k _ l, r .reads, hp, he);
-          counts = rw (add-one, r .counts, hp);
-          small = omega (arith, r .small);
+          counts = rw (add-one, r .counts, hc .0, hp);
+          small = omega (arith, r .small, hc .1);
         }
 
     pub all-read : 32 ≤ k → report-of 0 count pairs ≡ fileReport bytes at

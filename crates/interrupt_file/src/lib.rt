@@ -2,9 +2,10 @@
 ghost use mathlib.Core.Bool.{true};
 ghost use mathlib.Core.Path.{_≡_};
 ghost use Prim.Native.Nat.{_+_, _/_, _%_, _≤_, _<_};
+ghost use lib.Count.{ones as onesOf};
 ghost use lib.ListN.{length, getD, set};
 ghost use Rattle.interrupt_file.specs.Bit.{bitAt, raised, lowered};
-ghost use Rattle.interrupt_file.specs.File.{isFile, pendingOf, afterStore, afterTake};
+ghost use Rattle.interrupt_file.specs.File.{isFile, placeOf, pendingOf, afterStore, afterTake};
 ghost use Rattle.interrupt_file.specs.Report.{fileReport, refusedReport};
 
 // 01: "32 pairs of doublewords, pending then enable".
@@ -39,6 +40,14 @@ pub fn is_file(start: u64, len: u64, file: u64) -> bool
     true
 }
 
+// The index of the doubleword that holds an identity's pending bit; the pairs are 16 bytes apart.
+fn pending_at(start: u64, len: u64, file: u64, n: u64) -> usize
+    requires { ⌜ (isFile start len file ≡ true) × (n < 2048) ⌝ }
+    ensures { λ r. ⌜ (start + r + n % 64 / 8 ≡ placeOf file n) × (r + 8 ≤ len) ⌝ }
+{
+    (file - start + 16 * (n / 64)) as usize
+}
+
 // Sets bit k of a doubleword, which is bit k mod 8 of its byte k div 8.
 fn set_bit(part: &mut [u8], k: u64)
     requires { ⌜ (length (now part) ≡ 8) × (k < 64) ⌝ }
@@ -67,7 +76,7 @@ pub fn store(start: u64, window: &mut [u8], file: u64, n: u64)
     requires { ⌜ (isFile start (length (now window)) file ≡ true) × (n < 2048) ⌝ }
     ensures { λ _. ⌜ now (window .exit) ≡ afterStore start (now (window .entry)) file n ⌝ }
 {
-    let at = (file - start + 16 * (n / 64)) as usize;
+    let at = pending_at(start, window.len() as u64, file, n);
     set_bit(&mut window[at..at + 8], n % 64);
 }
 
@@ -77,8 +86,15 @@ pub fn take(start: u64, window: &mut [u8], file: u64, n: u64) -> u64
     ensures { λ r. ⌜ r ≡ pendingOf start (now (window .entry)) file n ⌝ }
     ensures { λ _. ⌜ now (window .exit) ≡ afterTake start (now (window .entry)) file n ⌝ }
 {
-    let at = (file - start + 16 * (n / 64)) as usize;
+    let at = pending_at(start, window.len() as u64, file, n);
     clear_bit(&mut window[at..at + 8], n % 64)
+}
+
+// How many bits of a doubleword are 1.
+fn ones(x: u64) -> u64
+    ensures { λ r. ⌜ (r ≡ onesOf x) × (r ≤ 64) ⌝ }
+{
+    u64::count_ones(x) as u64
 }
 
 // A report of the file at an index of the window.
@@ -100,7 +116,7 @@ pub fn file_report(window: &[u8], at: usize) -> Report
             pending: pending,
             enable: enable,
         };
-        count += u64::count_ones(pending) as u64;
+        count += ones(pending);
         k += 1;
     }
     Report {

@@ -69,6 +69,7 @@ fn aligned(page: u64, mask: u64) -> bool
     page * 4096 % size == 0
 }
 
+// A fault of the table: 261 where it can't be read, 262 for an entry that isn't valid, 263 for a misconfigured one, 1 for read-for-execute.
 fn table_fault(cause: u64) -> Message
     ensures { λ r. ⌜ r ≡ tableFault cause ⌝ }
 {
@@ -89,6 +90,7 @@ fn permitted(x: Access, m: Message) -> Message
     }
 }
 
+// Bits 9:3 and 62:54.
 fn translate_reserved(e: u64) -> bool
     ensures { λ r. ⌜ r ≡ translateReserved e ⌝ }
 {
@@ -98,6 +100,7 @@ fn translate_reserved(e: u64) -> bool
     e / 18014398509481984 % 512 != 0
 }
 
+// Bits 6:3 and 62:54 of the first doubleword, 59:54 and 63:61 of the second.
 fn record_reserved(e: u64, n: u64) -> bool
     ensures { λ r. ⌜ r ≡ recordReserved e n ⌝ }
 {
@@ -113,6 +116,7 @@ fn record_reserved(e: u64, n: u64) -> bool
     n / 2305843009213693952 % 8 != 0
 }
 
+// The file's address in bits 53:7; the notice's page in bits 53:10 and its number in bits 9:0 and, for bit 10, in bit 60.
 fn destination_of(e: u64, n: u64) -> Destination
     ensures { λ r. ⌜ r ≡ destinationOf e n ⌝ }
 {
@@ -136,6 +140,7 @@ fn on_translate(x: Access, a: u64, e: u64) -> Message
     )
 }
 
+// A recorded message, by both doublewords of its entry.
 fn on_notice(x: Access, e: u64, n: u64) -> Message
     ensures { λ r. ⌜ r ≡ onNotice x e n ⌝ }
 {

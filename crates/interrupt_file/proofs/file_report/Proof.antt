@@ -1,8 +1,7 @@
 -- `interrupt_file::file_report` meets its contract. The loop's invariant is `Read`: the first k pairs are read, and their ones counted. Assumes nothing.
-use Prim.Native.Nat.{_-_, _≤_}
+use Prim.Native.Nat.{_-_}
 use mathlib.Core.Path.{refl}
 use native.Mathlib.Omega.{arith}
-use lib.Count.{ones, ones-le}
 use borrow.Author.Needs.{needs}
 use Rattle.interrupt_file.proofs.Reports.{Read, none-read, one-more, all-read}
 use Rattle.interrupt_file.proofs.file_report.Statement.{statement}
@@ -44,15 +43,11 @@ mul-pairs c = search needs
 array-set-from-pairs : tie.Need-array-set-from-pairs Inv-loop μ-loop
 array-set-from-pairs c = search needs
 
--- a doubleword has at most 64 ones
-few : (c : tie.After-doubleword-at2 Inv-loop μ-loop) → ones (c .before .doubleword-at .result) ≤ 64
-few c = ones-le 64 _ (c .before .doubleword-at .ok)
-
-cast-count : tie.Need-cast-count Inv-loop μ-loop
-cast-count c = omega (arith, few c)
+ones-requires : tie.Need-ones-requires Inv-loop μ-loop
+ones-requires c κs = search needs
 
 add-count : tie.Need-add-count Inv-loop μ-loop
-add-count c = omega (arith, few c)
+add-count c = search needs
 
 add-k : tie.Need-add-k Inv-loop μ-loop
 add-k c = search needs
@@ -61,7 +56,9 @@ loop-less : tie.Need-loop-less Inv-loop μ-loop
 loop-less c = search needs
 
 loop-again : tie.Need-loop-again Inv-loop μ-loop
-loop-again c = one-more _ _ (c .before .before .before .loop .inv) _ _ (omega arith) (c .before .doubleword-at .ensures) (c .doubleword-at2 .ensures) (few c)
+loop-again c =
+    let d = c .before .before in
+    one-more _ _ (d .before .before .loop .inv) _ _ _ (omega arith) (d .doubleword-at .ensures) (c .before .doubleword-at2 .ensures) (c .ones .ensures)
 
 returns : tie.Need-returns Inv-loop μ-loop
 returns c = all-read _ _ (c .before .loop .inv) (c .loop-test .left)
@@ -82,7 +79,7 @@ file-report-spec =
     doubleword-at-requires-2
     mul-pairs
     array-set-from-pairs
-    cast-count
+    ones-requires
     add-count
     add-k
     loop-less

@@ -1,15 +1,15 @@
--- `message::recognised` meets its contract. What the mask picks is no more than the number itself. Assumes nothing.
+-- `message::recognised` meets its contract. What two numbers share is no more than either. Assumes nothing.
 use mathlib.Core.Path.{refl}
-use lib.Bits.{and-le-l}
+use lib.Bits.{and-le-l, and-le-r}
 use Rattle.message.specs.Recognition.{recognised}
 use Rattle.message.proofs.recognised.Statement.{statement}
 use Rattle.message.proofs.recognised.Tie as tie
 
 sub-result : tie.Need-sub-result
-sub-result c = and-le-l _ _
+sub-result c = search (and-le-l, and-le-r)
 
 sub-result-2 : tie.Need-sub-result-2
-sub-result-2 c = and-le-l _ _
+sub-result-2 c = search (and-le-l, and-le-r)
 
 returns : tie.Need-returns
 unfolding recognised
