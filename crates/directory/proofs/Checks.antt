@@ -9,9 +9,12 @@ use lib.Dec.{eqb, ltb, leb}
 use Rattle.memory.specs.Choice.{any}
 use Rattle.memory.specs.Bits.{bits, anySet}
 use Rattle.directory.specs.declared.DeviceContext.{DeviceContext}
+use Rattle.directory.specs.declared.ProcessContext.{ProcessContext}
+use Rattle.directory.specs.Pointers.{tooWide}
+use Rattle.directory.specs.Process.{processIndex, processMisconfigured, processTooWide}
 use Rattle.directory.specs.Fields.{modeOf, pageOf, bareOf, validMode}
 use Rattle.directory.specs.Device.{pdtv, dpe, deviceMisconfigured}
-use Rattle.directory.proofs.Tests.{less-is, or3, or-list}
+use Rattle.directory.proofs.Tests.{less-is, or3, or4, or-list}
 
 -- a mode's tests
 pub bare-is : (w v : ℕ) → v ≡ modeOf w → eqb v 0 ≡ bareOf w
@@ -111,4 +114,15 @@ module _ (c : DeviceContext) where
         by-bare t
         (or3 (ap not hv ∙ ap (λ q. not (q || eqb (modeOf (c .iohgatp)) 8)) (sym hb ∙ t)) (less-is 1 k ∙ ap (λ n. not (leb n 1)) hk) (ap (λ n. not (eqb (n % 4) 0)) hp))
 
-pub ruleset checks = (bare-is, valid-is, device-checks, first-process, first-dpe, first-mode, second-bare, second-on)
+pub process-checks : (c : ProcessContext) (x y z u : Bool) → x ≡ anySet (c .ta) 11 3 → y ≡ anySet (c .ta) 63 32 → z ≡ anySet (c .fsc) 59 44 → u ≡ validMode (c .fsc) → (((x || y) || z) || not u) ≡ processMisconfigured c
+unfolding processMisconfigured
+process-checks c x y z u p q r s = or4 p q r (ap not s)
+
+-- "(a Bare process directory sets no width)"
+pub wide-is : (c : DeviceContext) (p : ℕ) (b : Bool) (k i j : ℕ) (w : Bool) → b ≡ bareOf (c .fsc) → k ≡ modeOf (c .fsc) → i ≡ processIndex p 1 → j ≡ processIndex p 2 → w ≡ tooWide k i j → (not b && w) ≡ processTooWide c p
+wide-is c p b k i j w hb hk hi hj hw =
+    ap (λ q. not q && w) hb
+    ∙ ap (λ q. not (bareOf (c .fsc)) && q)
+    (hw ∙ ap (λ n. tooWide n i j) hk ∙ ap (λ n. tooWide (modeOf (c .fsc)) n j) hi ∙ ap (λ n. tooWide (modeOf (c .fsc)) (processIndex p 1) n) hj)
+
+pub ruleset checks = (bare-is, valid-is, device-checks, first-process, first-dpe, first-mode, second-bare, second-on, process-checks, wide-is)

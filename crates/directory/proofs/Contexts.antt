@@ -49,6 +49,26 @@ module _ (start a x : ℕ) (s : List ℕ) (v : Load) (h : v ≡ memory start s a
   value-high : a + 8 ≤ start + length s
   value-high = leb-true (a + 8) (start + length s) (both (leb start a) _ within .1)
 
+-- a context starts with a doubleword whose bit 0 is V: `rest` is what follows it
+module _ {A : Type 0} (m : ℕ → Load) (a : ℕ) (fault bad : A) (rest : ℕ → Walk A) (v : Load) (hv : v ≡ m a) where
+  abbrev after : ℕ → Walk A
+  after w = pick (bit w 0) (rest w) (done bad)
+
+  pub leaf-unread : {x : A} → v ≡ Violation → x ≡ fault → x ≡ run m (loadOr (done fault) a after)
+  leaf-unread e h = loads m a (onValue (done fault) after) hv (at m (onValue (done fault) after) e h)
+
+  module _ (w : ℕ) (ev : v ≡ Value w) (b : Bool) (hb : b ≡ bit w 0) where
+    tested : {q : Bool} {x : A} → b ≡ q → x ≡ run m (pick q (rest w) (done bad)) → x ≡ run m (loadOr (done fault) a after)
+    tested t e =
+        loads m a (onValue (done fault) after) hv
+        (at m (onValue (done fault) after) ev (at m (λ q. pick q (rest w) (done bad)) (sym hb ∙ t) e))
+
+    pub leaf-invalid : {x : A} → not b ≡ true → x ≡ bad → x ≡ run m (loadOr (done fault) a after)
+    leaf-invalid t h = tested (not-true b t) h
+
+    pub leaf-valid : {x : A} → not b ≡ false → x ≡ run m (rest w) → x ≡ run m (loadOr (done fault) a after)
+    leaf-valid t h = tested (not-false b t) h
+
 -- where every way through what follows a load gives the fault of a failed load, so does the load
 stuck : {A : Type 0} (m : ℕ → Load) (x : A) (a : ℕ) (k : ℕ → Walk A) → ((w : ℕ) → run m (k w) ≡ x) → run m (loadOr (done x) a k) ≡ x
 stuck m x a k h = go (m a)
@@ -89,28 +109,27 @@ module _ (a tc : ℕ) where
 abbrev unread : DeviceFound
 unread = Fault (loadFault Device)
 
-abbrev afterTc : ℕ → ℕ → Walk DeviceFound
-afterTc a tc = pick (bit tc 0) (rest a tc) (done (Fault (invalid Device)))
+abbrev bad : DeviceFound
+bad = Fault (invalid Device)
 
 -- the ways out of reading a context
 module _ (m : ℕ → Load) (a : ℕ) (v : Load) (hv : v ≡ m a) where
   pub context-unread : (f : FaultInfo) → v ≡ Violation → f ≡ loadFault Device → Fault f ≡ run m (deviceContextAt a)
   unfolding deviceContextAt
-  context-unread f e h = loads m a (onValue (done unread) (afterTc a)) hv (at m (onValue (done unread) (afterTc a)) e (ap Fault h))
+  context-unread f e h = leaf-unread m a unread bad (rest a) v hv e (ap Fault h)
 
   module _ (tc : ℕ) (ev : v ≡ Value tc) (b : Bool) (hb : b ≡ bit tc 0) where
-    loaded : {q : Bool} {x : DeviceFound} → b ≡ q → x ≡ run m (pick q (rest a tc) (done (Fault (invalid Device)))) → x ≡ run m (deviceContextAt a)
-    unfolding deviceContextAt
-    loaded t e =
-        loads m a (onValue (done unread) (afterTc a)) hv
-        (at m (onValue (done unread) (afterTc a)) ev (at m (λ q. pick q (rest a tc) (done (Fault (invalid Device)))) (sym hb ∙ t) e))
-
     pub context-invalid : (f : FaultInfo) → not b ≡ true → f ≡ invalid Device → Fault f ≡ run m (deviceContextAt a)
-    context-invalid f t h = loaded (not-true b t) (ap Fault h)
+    unfolding deviceContextAt
+    context-invalid f t h = leaf-invalid m a unread bad (rest a) v hv tc ev b hb t (ap Fault h)
+
+    valid : {x : DeviceFound} → not b ≡ false → x ≡ run m (rest a tc) → x ≡ run m (deviceContextAt a)
+    unfolding deviceContextAt
+    valid t h = leaf-valid m a unread bad (rest a) v hv tc ev b hb t h
 
     -- where the last doubleword can't be read, no way through leads past that fault
     pub context-cut : (u : Load) (f : FaultInfo) → not b ≡ false → u ≡ m (a + 56) → u ≡ Violation → f ≡ loadFault Device → Fault f ≡ run m (deviceContextAt a)
-    context-cut u f t hu eu h = loaded (not-false b t) (ap Fault h ∙ sym (stuck m unread (a + 8) (read1 a tc) from16))
+    context-cut u f t hu eu h = valid t (ap Fault h ∙ sym (stuck m unread (a + 8) (read1 a tc) from16))
       where
         last : (g t f p k n : ℕ) → run m (read6 a tc g t f p k n) ≡ unread
         last g t f p k n =
@@ -153,7 +172,7 @@ module _ (start a tc reserved : ℕ) (s : List ℕ) (v u : Load)
     checked : {x : DeviceFound} → x ≡ checkedDevice c → x ≡ run (memory start s) (deviceContextAt a)
     checked e =
         let k7 = onValue (done unread) (read7 a tc (w 8) (w 16) (w 24) (w 32) (w 40) (w 48)) in
-        loaded (memory start s) a v hv tc ev b hb (not-false b t)
+        valid (memory start s) a v hv tc ev b hb t
         (next 8 (omega arith) (read1 a tc)
         (next 16 (omega arith) (read2 a tc (w 8))
         (next 24 (omega arith) (read3 a tc (w 8) (w 16))

@@ -33,8 +33,11 @@ or2 {a} {b} p q = or-last (a ∷ []) b (p ∙ one a) q
 pub or3 : {a b c x y z : Bool} → x ≡ a → y ≡ b → z ≡ c → ((x || y) || z) ≡ any (a ∷ b ∷ c ∷ [])
 or3 {a} {b} {c} p q r = or-last (a ∷ b ∷ []) c (or2 p q) r
 
+pub or4 : {a b c d x y z u : Bool} → x ≡ a → y ≡ b → z ≡ c → u ≡ d → (((x || y) || z) || u) ≡ any (a ∷ b ∷ c ∷ d ∷ [])
+or4 {a} {b} {c} {d} p q r s = or-last (a ∷ b ∷ c ∷ []) d (or3 p q r) s
+
 pub or5 : {a b c d e x y z u v : Bool} → x ≡ a → y ≡ b → z ≡ c → u ≡ d → v ≡ e → ((((x || y) || z) || u) || v) ≡ any (a ∷ b ∷ c ∷ d ∷ e ∷ [])
-or5 {a} {b} {c} {d} {e} p q r s t = or-last (a ∷ b ∷ c ∷ d ∷ []) e (or-last (a ∷ b ∷ c ∷ []) d (or3 p q r) s) t
+or5 {a} {b} {c} {d} {e} p q r s t = or-last (a ∷ b ∷ c ∷ d ∷ []) e (or4 p q r s) t
 
 -- the code's `a < b` where a definition says that b isn't at most a
 pub less-is : (a b : ℕ) → ltb a b ≡ not (leb b a)

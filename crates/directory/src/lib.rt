@@ -1,8 +1,12 @@
 // The device directory with its contexts, and the process directory with its.
+use causes::Access;
 use causes::FaultInfo;
 use causes::Stage;
 use memory::Load;
 use paging::PageTable;
+use paging::Purpose;
+use paging::Scheme;
+use paging::Translation;
 ghost use mathlib.Core.Path.{_≡_};
 ghost use mathlib.Core.List.{[], _∷_};
 ghost use mathlib.Core.Bool.{_&&_, not};
@@ -15,10 +19,12 @@ ghost use Rattle.memory.specs.Window.{doubleword, memory};
 ghost use Rattle.memory.specs.Walk.{run};
 ghost use Rattle.paging.specs.Stages.{direct};
 ghost use Rattle.directory.specs.Pointers.{loadFault, invalid as invalidOf, misconfigured as misconfiguredOf, pointerOf, pointers, tooWide};
-ghost use Rattle.directory.specs.Fields.{modeOf, pageOf, bareOf, validMode};
+ghost use Rattle.directory.specs.Fields.{modeOf, pageOf, bareOf, validMode, firstTable, secondTable, bareTable};
 ghost use Rattle.directory.specs.Device.{pdtv, dpe, deviceIndex, deviceMisconfigured, checkedDevice, deviceContextAt, deviceContextOf};
-ghost use Rattle.directory.specs.Process.{processIndex};
-ghost use Rattle.directory.specs.Sound.{Near, Masked};
+ghost use Rattle.causes.specs.Causes.{disallowed as disallowedOf};
+ghost use Rattle.paging.specs.Within.{Within};
+ghost use Rattle.directory.specs.Process.{processIndex, processMisconfigured, processContextAt, processReach, processContextOf, processTable, processTooWide, firstTableOf};
+ghost use Rattle.directory.specs.Sound.{Near, Masked, Rooted};
 
 // The two directories.
 pub enum Tree {
@@ -70,6 +76,18 @@ pub struct ProcessContext {
 pub enum ProcessFound {
     Context(ProcessContext),
     Fault(FaultInfo),
+}
+
+impl ProcessFound {
+    // The fault, where it is one.
+    fn fault(self) -> FaultInfo
+        ensures { λ r. ⌜ ((f : FaultInfo) → self ≡ ProcessFound.Fault f → r ≡ f) ⌝ }
+    {
+        match self {
+            ProcessFound::Fault(f) => f,
+            ProcessFound::Context(_) => load_fault(Tree::Process),
+        }
+    }
 }
 
 // 01: "an optional process_id".
@@ -351,4 +369,206 @@ pub fn device_context(levels: u64, root: u64, d: u64, start: u64, window: &[u8])
         return DeviceFound::Fault(p.fault());
     };
     context_at(start, window, table * 4096 + 64 * device_index(d, 0))
+}
+
+pub fn second_table(c: DeviceContext) -> PageTable
+    ensures { λ r. ⌜ (r ≡ secondTable (c .iohgatp)) × (r .root < 2 ^ 44) ⌝ }
+{
+    PageTable {
+        on: !bare(c.iohgatp),
+        scheme: Scheme::Sv39x4,
+        root: page(c.iohgatp),
+    }
+}
+
+pub fn second_bare(c: DeviceContext) -> bool
+    ensures { λ r. ⌜ r ≡ bareOf (c .iohgatp) ⌝ }
+{
+    bare(c.iohgatp)
+}
+
+pub fn message_page(c: DeviceContext) -> u64
+    ensures { λ r. ⌜ (r ≡ pageOf (c .msiptp)) × (r < 2 ^ 44) ⌝ }
+{
+    page(c.msiptp)
+}
+
+pub fn message_off(c: DeviceContext) -> bool
+    ensures { λ r. ⌜ r ≡ bareOf (c .msiptp) ⌝ }
+{
+    bare(c.msiptp)
+}
+
+// The first stage's table, as fsc gives it.
+fn iosatp(fsc: u64) -> PageTable
+    ensures { λ r. ⌜ (r ≡ firstTable fsc) × (r .root < 2 ^ 44) ⌝ }
+{
+    PageTable {
+        on: !bare(fsc),
+        scheme: Scheme::Sv39,
+        root: page(fsc),
+    }
+}
+
+fn bare_table() -> PageTable
+    ensures { λ r. ⌜ (r ≡ bareTable) × (r .root < 2 ^ 44) ⌝ }
+{
+    PageTable {
+        on: false,
+        scheme: Scheme::Sv39,
+        root: 0,
+    }
+}
+
+fn disallowed() -> FaultInfo
+    ensures { λ r. ⌜ r ≡ disallowedOf ⌝ }
+{
+    FaultInfo {
+        cause: 260,
+        stage: Stage::Directory,
+    }
+}
+
+// The fault of a translation, where it is one.
+fn translation_fault(t: Translation) -> FaultInfo
+    ensures { λ r. ⌜ ((f : FaultInfo) → t ≡ Translation.Fault f → r ≡ f) ⌝ }
+{
+    match t {
+        Translation::Fault(f) => f,
+        Translation::To(_) => load_fault(Tree::Process),
+    }
+}
+
+fn process_misconfigured(c: ProcessContext) -> bool
+    ensures { λ r. ⌜ r ≡ processMisconfigured c ⌝ }
+{
+    any_set(c.ta, 11, 3) | any_set(c.ta, 63, 32) | any_set(c.fsc, 59, 44) | !valid_mode(c.fsc)
+}
+
+fn process_context_at(start: u64, window: &[u8], a: u64) -> ProcessFound
+    requires { ⌜ a < 2 ^ 60 ⌝ }
+    ensures { λ r. ⌜ r ≡ run (memory start (now (window .entry))) (processContextAt a) ⌝ }
+{
+    let first = memory::load64(start, window, a);
+    let Load::Value(ta) = first else {
+        return ProcessFound::Fault(load_fault(Tree::Process));
+    };
+    if !bit(ta, 0) {
+        return ProcessFound::Fault(invalid(Tree::Process));
+    }
+    let second = memory::load64(start, window, a + 8);
+    let Load::Value(fsc) = second else {
+        return ProcessFound::Fault(load_fault(Tree::Process));
+    };
+    let c = ProcessContext { ta: ta, fsc: fsc };
+    if process_misconfigured(c) {
+        return ProcessFound::Fault(misconfigured(Tree::Process));
+    }
+    ProcessFound::Context(c)
+}
+
+// Where the process directory's entry at an address lies: the second stage says, where it is on.
+fn process_place(c: DeviceContext, x: Access, start: u64, window: &[u8], a: u64) -> Translation
+    ensures { λ r. ⌜ (r ≡ run (memory start (now (window .entry))) (processReach c x a)) × Within a r ⌝ }
+{
+    let g = second_table(c);
+    paging::second_stage(g, Purpose::ProcessEntry, x, start, window, a)
+}
+
+// From the root to the table of process contexts.
+fn process_table_page(c: DeviceContext, x: Access, p: u64, start: u64, window: &[u8]) -> Pointed
+    ensures { λ r. ⌜ (r ≡ run (memory start (now (window .entry))) (pointers Tree.Process (processIndex p) (processReach c x) (modeOf (c .fsc) - 1) (pageOf (c .fsc)))) × Near r ⌝ }
+{
+    let mut left = mode(c.fsc);
+    let mut table = page(c.fsc);
+    while 1 < left {
+        left -= 1;
+        let at = table * 4096 + 8 * process_index(p, left);
+        let place = process_place(c, x, start, window, at);
+        let Translation::To(a) = place else {
+            return Pointed::Fault(translation_fault(place));
+        };
+        let found = pointer(Tree::Process, memory::load64(start, window, a));
+        let Pointed::Next(next) = found else {
+            return found;
+        };
+        table = next;
+    }
+    Pointed::Next(table)
+}
+
+fn process_context(c: DeviceContext, x: Access, p: u64, start: u64, window: &[u8]) -> ProcessFound
+    ensures { λ r. ⌜ r ≡ run (memory start (now (window .entry))) (processContextOf c x p) ⌝ }
+{
+    let found = process_table_page(c, x, p, start, window);
+    let Pointed::Next(table) = found else {
+        return ProcessFound::Fault(found.fault());
+    };
+    let at = table * 4096 + 16 * process_index(p, 0);
+    let place = process_place(c, x, start, window, at);
+    let Translation::To(a) = place else {
+        return ProcessFound::Fault(translation_fault(place));
+    };
+    process_context_at(start, window, a)
+}
+
+// The first stage of a process.
+fn process_table(
+    c: DeviceContext,
+    supervisor: bool,
+    x: Access,
+    p: u64,
+    start: u64,
+    window: &[u8],
+) -> PageTableInfo
+    ensures { λ r. ⌜ (r ≡ run (memory start (now (window .entry))) (processTable c supervisor x p)) × Rooted r ⌝ }
+{
+    if bare(c.fsc) {
+        return PageTableInfo::Use(bare_table());
+    }
+    let found = process_context(c, x, p, start, window);
+    let ProcessFound::Context(k) = found else {
+        return PageTableInfo::Fault(found.fault());
+    };
+    if supervisor & !bit(k.ta, 1) {
+        return PageTableInfo::Fault(disallowed());
+    }
+    PageTableInfo::Use(iosatp(k.fsc))
+}
+
+// A process_id wider than the process directory's mode allows.
+fn process_too_wide(c: DeviceContext, p: u64) -> bool
+    ensures { λ r. ⌜ r ≡ processTooWide c p ⌝ }
+{
+    !bare(c.fsc) & too_wide(mode(c.fsc), process_index(p, 1), process_index(p, 2))
+}
+
+// The first stage's table for a request.
+pub fn first_table(
+    c: DeviceContext,
+    process: ProcessId,
+    supervisor: bool,
+    x: Access,
+    start: u64,
+    window: &[u8],
+) -> PageTableInfo
+    ensures { λ r. ⌜ (r ≡ run (memory start (now (window .entry))) (firstTableOf c process supervisor x)) × Rooted r ⌝ }
+{
+    let pdtv = bit(c.tc, 5);
+    let ProcessId::Given(p) = process else {
+        if !pdtv {
+            return PageTableInfo::Use(iosatp(c.fsc));
+        }
+        if !bit(c.tc, 9) {
+            return PageTableInfo::Use(bare_table());
+        }
+        return process_table(c, supervisor, x, 0, start, window);
+    };
+    if !pdtv {
+        return PageTableInfo::Fault(disallowed());
+    }
+    if process_too_wide(c, p) {
+        return PageTableInfo::Fault(disallowed());
+    }
+    process_table(c, supervisor, x, p, start, window)
 }
