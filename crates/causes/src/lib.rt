@@ -1,6 +1,6 @@
 // What a device asks to do, and what a fault says.
 ghost use mathlib.Core.Path.{_≡_};
-ghost use Rattle.causes.specs.Causes.{accessFault, pageFault, guestPageFault};
+ghost use Rattle.causes.specs.Causes.{accessFault, pageFault, guestPageFault, disallowed as disallowedOf};
 
 // 01: "read, write or read-for-execute".
 pub enum Access {
@@ -51,5 +51,15 @@ pub fn guest_page_fault(x: Access) -> u64
         Access::Execute => 20,
         Access::Read => 21,
         Access::Write => 23,
+    }
+}
+
+// 003: "Transaction type disallowed".
+pub fn disallowed() -> FaultInfo
+    ensures { λ r. ⌜ r ≡ disallowedOf ⌝ }
+{
+    FaultInfo {
+        cause: 260,
+        stage: Stage::Directory,
     }
 }

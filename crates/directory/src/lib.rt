@@ -21,7 +21,6 @@ ghost use Rattle.paging.specs.Stages.{direct};
 ghost use Rattle.directory.specs.Pointers.{loadFault, invalid as invalidOf, misconfigured as misconfiguredOf, pointerOf, pointers, tooWide};
 ghost use Rattle.directory.specs.Fields.{modeOf, pageOf, bareOf, validMode, firstTable, secondTable, bareTable};
 ghost use Rattle.directory.specs.Device.{pdtv, dpe, deviceIndex, deviceMisconfigured, checkedDevice, deviceContextAt, deviceContextOf};
-ghost use Rattle.causes.specs.Causes.{disallowed as disallowedOf};
 ghost use Rattle.paging.specs.Within.{Within};
 ghost use Rattle.directory.specs.Process.{processIndex, processMisconfigured, processContextAt, processReach, processContextOf, processTable, processTooWide, firstTableOf};
 ghost use Rattle.directory.specs.Sound.{Near, Masked, Rooted};
@@ -67,6 +66,18 @@ pub enum DeviceFound {
     Fault(FaultInfo),
 }
 
+impl DeviceFound {
+    // The fault, where it is one.
+    pub fn fault(self) -> FaultInfo
+        ensures { λ r. ⌜ ((f : FaultInfo) → self ≡ DeviceFound.Fault f → r ≡ f) ⌝ }
+    {
+        match self {
+            DeviceFound::Fault(f) => f,
+            DeviceFound::Context(_) => load_fault(Tree::Device),
+        }
+    }
+}
+
 // 01: "a leaf is 16 bytes, ta .., then fsc".
 pub struct ProcessContext {
     pub ta: u64,
@@ -100,6 +111,18 @@ pub enum ProcessId {
 pub enum PageTableInfo {
     Use(PageTable),
     Fault(FaultInfo),
+}
+
+impl PageTableInfo {
+    // The fault, where it is one.
+    pub fn fault(self) -> FaultInfo
+        ensures { λ r. ⌜ ((f : FaultInfo) → self ≡ PageTableInfo.Fault f → r ≡ f) ⌝ }
+    {
+        match self {
+            PageTableInfo::Fault(f) => f,
+            PageTableInfo::Use(_) => load_fault(Tree::Device),
+        }
+    }
 }
 
 // Bits high to low of e, as a number.
@@ -194,7 +217,7 @@ fn pointer(t: Tree, v: Load) -> Pointed
     Pointed::Next(field(e, 53, 10))
 }
 
-fn device_index(d: u64, n: u64) -> u64
+pub fn device_index(d: u64, n: u64) -> u64
     ensures { λ r. ⌜ (r ≡ deviceIndex d n) × (r < 512) ⌝ }
 {
     if n == 0 {
@@ -420,15 +443,6 @@ fn bare_table() -> PageTable
     }
 }
 
-fn disallowed() -> FaultInfo
-    ensures { λ r. ⌜ r ≡ disallowedOf ⌝ }
-{
-    FaultInfo {
-        cause: 260,
-        stage: Stage::Directory,
-    }
-}
-
 // The fault of a translation, where it is one.
 fn translation_fault(t: Translation) -> FaultInfo
     ensures { λ r. ⌜ ((f : FaultInfo) → t ≡ Translation.Fault f → r ≡ f) ⌝ }
@@ -531,7 +545,7 @@ fn process_table(
         return PageTableInfo::Fault(found.fault());
     };
     if supervisor & !bit(k.ta, 1) {
-        return PageTableInfo::Fault(disallowed());
+        return PageTableInfo::Fault(causes::disallowed());
     }
     PageTableInfo::Use(iosatp(k.fsc))
 }
@@ -565,10 +579,10 @@ pub fn first_table(
         return process_table(c, supervisor, x, 0, start, window);
     };
     if !pdtv {
-        return PageTableInfo::Fault(disallowed());
+        return PageTableInfo::Fault(causes::disallowed());
     }
     if process_too_wide(c, p) {
-        return PageTableInfo::Fault(disallowed());
+        return PageTableInfo::Fault(causes::disallowed());
     }
     process_table(c, supervisor, x, p, start, window)
 }

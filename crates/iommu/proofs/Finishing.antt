@@ -10,6 +10,7 @@ use borrow.Author.Tests.{eq-eqb, ne-eqb, leb-true}
 use Rattle.memory.specs.Window.{memory}
 use Rattle.memory.specs.Walk.{run}
 use Rattle.causes.specs.declared.Access.{Access}
+use Rattle.causes.specs.declared.FaultInfo.{FaultInfo}
 use Rattle.interrupt_file.specs.File.{isFile, afterStore}
 use Rattle.message.specs.declared.Destination.{Destination}
 use Rattle.iommu.specs.declared.Settings.{Settings}
@@ -102,6 +103,31 @@ module _ (s : Settings) (bytes : List ℕ) (q : DeviceRequest) (value r : ℕ) (
     request-finishes p a e h =
         passed _ Refused _ _ (sym hr ∙ z) (h ∙ ap (finish (s .start) (length bytes) q value) (sym e ∙ ho))
 
+    -- an outcome that is no message to a file passes as it is, and changes nothing
+    pub request-translates : (a : ℕ) → o ≡ Outcome.Translated a → Answer.Translated a ≡ requestOf s bytes q value
+    unfolding finish
+    request-translates a e = request-finishes (Outcome.Translated a) (Answer.Translated a) e refl
+
+    pub request-redirects : (a : ℕ) → o ≡ Outcome.Redirected a → Answer.Redirected a ≡ requestOf s bytes q value
+    unfolding finish
+    request-redirects a e = request-finishes (Outcome.Redirected a) (Answer.Redirected a) e refl
+
+    pub request-faults : (f : FaultInfo) → o ≡ Outcome.Fault f → Answer.Fault f ≡ requestOf s bytes q value
+    unfolding finish
+    request-faults f e = request-finishes (Outcome.Fault f) (Answer.Fault f) e refl
+
+    pub translated-bytes : (a : ℕ) → o ≡ Outcome.Translated a → bytes ≡ afterRequest s bytes q value
+    unfolding afterRequest
+    translated-bytes a e = ap (storedBy (s .start) bytes q value) (request-translates a e)
+
+    pub redirected-bytes : (a : ℕ) → o ≡ Outcome.Redirected a → bytes ≡ afterRequest s bytes q value
+    unfolding afterRequest
+    redirected-bytes a e = ap (storedBy (s .start) bytes q value) (request-redirects a e)
+
+    pub faulted-bytes : (f : FaultInfo) → o ≡ Outcome.Fault f → bytes ≡ afterRequest s bytes q value
+    unfolding afterRequest
+    faulted-bytes f e = ap (storedBy (s .start) bytes q value) (request-faults f e)
+
     pub request-bytes : (p : Outcome) (a : Answer) (after : List ℕ) → o ≡ p → a ≡ finish (s .start) (length bytes) q value p
         → after ≡ storedBy (s .start) bytes q value a → after ≡ afterRequest s bytes q value
     unfolding afterRequest
@@ -113,4 +139,4 @@ accepted-mode s r h z = let k : Accepted s 0 = subst (Accepted s) z h in k .0
 pub accepted-root : (s : Settings) (r : ℕ) → Accepted s r → r ≡ 0 → s .root < 2 ^ 44
 accepted-root s r h z = let k : Accepted s 0 = subst (Accepted s) z h in k .1
 
-pub ruleset request-ways = (request-refused, refused-bytes, request-finishes, request-bytes, accepted-mode, accepted-root)
+pub ruleset request-ways = (request-refused, refused-bytes, request-finishes, request-bytes, request-translates, request-redirects, request-faults, translated-bytes, redirected-bytes, faulted-bytes, accepted-mode, accepted-root)

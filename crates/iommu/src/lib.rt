@@ -1,13 +1,28 @@
 // One request, one answer: the whole path over one lent window.
 use causes::Access;
 use causes::FaultInfo;
+use causes::Stage;
+use directory::DeviceContext;
+use directory::DeviceFound;
+use directory::PageTableInfo;
 use directory::ProcessId;
 use interrupt_file::Report;
 use message::Destination;
+use message::Message;
+use paging::PageTable;
+use paging::Purpose;
+use paging::Translation;
 ghost use mathlib.Core.Path.{_≡_};
-ghost use mathlib.Core.Bool.{_&&_};
+ghost use mathlib.Core.Bool.{_&&_, _||_, not};
+ghost use Prim.Native.Nat.{_<_, _^_};
+ghost use lib.ListN.{length};
+ghost use Rattle.memory.specs.Window.{memory};
+ghost use Rattle.memory.specs.Walk.{run};
+ghost use Rattle.directory.specs.Fields.{bareOf};
 ghost use Rattle.iommu.specs.Refusals.{badWindow, badDirectory, badProcess, absent, badLength, requestRefusal, takeRefusal, reportRefusal};
 ghost use Rattle.iommu.specs.Answers.{numbers as numbersBy, numbersOf};
+ghost use Rattle.iommu.specs.Translate.{untranslated as untranslatedOf, onMessage, onSecond, isMessage, guestOf, stagesOf, onDevice, directoryOf, translateOf};
+ghost use Rattle.iommu.specs.Request.{reversed as reversedOf, identityOf, isWrite as isWriteOf, storableAs, finish as finishOf, storedBy, requestOf, afterRequest};
 ghost use Rattle.iommu.specs.Files.{takeOf, afterTakeOf, reportOf};
 ghost use Rattle.iommu.specs.Bounds.{Accepted, Takeable, Reportable};
 
@@ -222,4 +237,228 @@ pub fn report(start: u64, window: &[u8], file: u64) -> Report
         return interrupt_file::file_report(window, (file - start) as usize);
     }
     interrupt_file::refused_report(refusal)
+}
+
+// An address that no stage translates.
+fn untranslated(x: Access, a: u64) -> Outcome
+    ensures { λ r. ⌜ r ≡ untranslatedOf x a ⌝ }
+{
+    if a < 72057594037927936 {
+        return Outcome::Translated(a);
+    }
+    Outcome::Fault(FaultInfo {
+        cause: causes::access_fault(x),
+        stage: Stage::Directory,
+    })
+}
+
+fn told(m: Message) -> Outcome
+    ensures { λ r. ⌜ r ≡ onMessage m ⌝ }
+{
+    match m {
+        Message::Fault(f) => Outcome::Fault(f),
+        Message::Redirect(a) => Outcome::Redirected(a),
+        Message::Record(d) => Outcome::Recorded(d),
+    }
+}
+
+fn reached(t: Translation) -> Outcome
+    ensures { λ r. ⌜ r ≡ onSecond t ⌝ }
+{
+    match t {
+        Translation::Fault(f) => Outcome::Fault(f),
+        Translation::To(a) => Outcome::Translated(a),
+    }
+}
+
+fn is_message(c: DeviceContext, a: u64) -> bool
+    ensures { λ r. ⌜ r ≡ isMessage c a ⌝ }
+{
+    if directory::message_off(c) {
+        return false;
+    }
+    message::recognised(c.mask, c.pattern, a)
+}
+
+// The guest address after the first stage: a message, or the second stage's.
+fn guest(c: DeviceContext, x: Access, start: u64, window: &[u8], a: u64) -> Outcome
+    requires { ⌜ c .mask < 2 ^ 52 ⌝ }
+    ensures { λ r. ⌜ r ≡ run (memory start (now (window .entry))) (guestOf c x a) ⌝ }
+{
+    if is_message(c, a) {
+        let page = directory::message_page(c);
+        return told(message::message_of(page, c.mask, x, start, window, a));
+    }
+    let g = directory::second_table(c);
+    reached(paging::second_stage(g, Purpose::SecondStage, x, start, window, a))
+}
+
+fn translated_by(f: PageTable, c: DeviceContext) -> bool
+    ensures { λ r. ⌜ r ≡ (f .on || not (bareOf (c .iohgatp))) ⌝ }
+{
+    if f.on {
+        return true;
+    }
+    !directory::second_bare(c)
+}
+
+// Both stages, with the first stage's table.
+fn stages(c: DeviceContext, q: DeviceRequest, f: PageTable, start: u64, window: &[u8]) -> Outcome
+    requires { ⌜ (c .mask < 2 ^ 52) × (f .root < 2 ^ 44) ⌝ }
+    ensures { λ r. ⌜ r ≡ run (memory start (now (window .entry))) (stagesOf c q f) ⌝ }
+{
+    let x = q.access;
+    if translated_by(f, c) {
+        let g = directory::second_table(c);
+        let t = paging::first_stage(f, g, x, !q.supervisor, start, window, q.address);
+        let Translation::To(a) = t else {
+            return reached(t);
+        };
+        return guest(c, x, start, window, a);
+    }
+    untranslated(x, q.address)
+}
+
+// Steps 7 to 20, with the device context.
+fn with_context(c: DeviceContext, q: DeviceRequest, start: u64, window: &[u8]) -> Outcome
+    requires { ⌜ c .mask < 2 ^ 52 ⌝ }
+    ensures { λ r. ⌜ r ≡ run (memory start (now (window .entry))) (onDevice q (DeviceFound.Context c)) ⌝ }
+{
+    let p = q.process;
+    let x = q.access;
+    let info = directory::first_table(c, p, q.supervisor, x, start, window);
+    let PageTableInfo::Use(f) = info else {
+        return Outcome::Fault(info.fault());
+    };
+    stages(c, q, f, start, window)
+}
+
+// Steps 5 to 20, with a directory.
+fn in_directory(s: Settings, q: DeviceRequest, window: &[u8]) -> Outcome
+    requires { ⌜ (1 < s .mode) × (s .mode < 5) × (s .root < 2 ^ 44) ⌝ }
+    ensures { λ r. ⌜ r ≡ run (memory (s .start) (now (window .entry))) (directoryOf s q) ⌝ }
+{
+    let levels = s.mode - 1;
+    let d = q.device;
+    if directory::too_wide(
+        levels,
+        directory::device_index(d, 1),
+        directory::device_index(d, 2),
+    ) {
+        return Outcome::Fault(causes::disallowed());
+    }
+    let found = directory::device_context(levels, s.root, d, s.start, window);
+    let DeviceFound::Context(c) = found else {
+        return Outcome::Fault(found.fault());
+    };
+    with_context(c, q, s.start, window)
+}
+
+// What the tables say of a request.
+fn translate(s: Settings, q: DeviceRequest, window: &[u8]) -> Outcome
+    requires { ⌜ (s .mode < 5) × (s .root < 2 ^ 44) ⌝ }
+    ensures { λ r. ⌜ r ≡ run (memory (s .start) (now (window .entry))) (translateOf s q) ⌝ }
+{
+    let x = q.access;
+    if s.mode == 0 {
+        return Outcome::Fault(FaultInfo {
+            cause: 256,
+            stage: Stage::Directory,
+        });
+    }
+    if s.mode == 1 {
+        return untranslated(x, q.address);
+    }
+    in_directory(s, q, window)
+}
+
+// The four bytes of a data value reversed.
+fn reversed(value: u32) -> u64
+    ensures { λ r. ⌜ r ≡ reversedOf value ⌝ }
+{
+    let d = value as u64;
+    d % 256 * 16777216 + d / 256 % 256 * 65536 + d / 65536 % 256 * 256 + d / 16777216 % 256
+}
+
+// The identity that a message's data value names.
+fn identity(q: DeviceRequest, value: u32) -> u64
+    ensures { λ r. ⌜ r ≡ identityOf q value ⌝ }
+{
+    if q.address % 4096 == 4 {
+        return reversed(value);
+    }
+    value as u64
+}
+
+fn is_write(x: Access) -> bool
+    ensures { λ r. ⌜ r ≡ isWriteOf x ⌝ }
+{
+    match x {
+        Access::Read => false,
+        Access::Write => true,
+        Access::Execute => false,
+    }
+}
+
+// Whether an access under MRIF mode stores its message.
+fn storable(q: DeviceRequest, n: u64) -> bool
+    ensures { λ r. ⌜ r ≡ storableAs q n ⌝ }
+{
+    let x = q.access;
+    if is_write(x) {
+        if q.length == 4 {
+            let at = q.address % 4096;
+            return ((at == 0) | (at == 4)) & (n <= 2047);
+        }
+        return false;
+    }
+    false
+}
+
+// Records a message in its file, or says why not.
+fn record_message(
+    start: u64,
+    window: &mut [u8],
+    q: DeviceRequest,
+    value: u32,
+    d: Destination,
+) -> Answer
+    ensures answer { λ r. ⌜ r ≡ finishOf start (length (now (window .entry))) q value (Outcome.Recorded d) ⌝ }
+    ensures bytes { λ r. ⌜ now (window .exit) ≡ storedBy start (now (window .entry)) q value r ⌝ }
+{
+    let n = identity(q, value);
+    if storable(q, n) {
+        if interrupt_file::is_file(start, window.len() as u64, d.file) {
+            interrupt_file::store(start, window, d.file, n);
+            return Answer::Stored(d);
+        }
+        return Answer::Refused(2007);
+    }
+    Answer::Discarded
+}
+
+// One request, one answer.
+pub fn request(s: Settings, window: &mut [u8], q: DeviceRequest, value: u32) -> Answer
+    ensures answer { λ r. ⌜ r ≡ requestOf s (now (window .entry)) q value ⌝ }
+    ensures bytes { λ _. ⌜ now (window .exit) ≡ afterRequest s (now (window .entry)) q value ⌝ }
+{
+    let refusal = request_refusal(s, window.len() as u64, q);
+    if refusal == 0 {
+        let outcome = translate(s, q, window);
+        match outcome {
+            Outcome::Translated(a) => {
+                return Answer::Translated(a);
+            }
+            Outcome::Redirected(a) => {
+                return Answer::Redirected(a);
+            }
+            Outcome::Fault(f) => {
+                return Answer::Fault(f);
+            }
+            Outcome::Recorded(d) => {
+                return record_message(s.start, window, q, value, d);
+            }
+        }
+    }
+    Answer::Refused(refusal)
 }
