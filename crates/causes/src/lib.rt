@@ -1,6 +1,6 @@
 // What a device asks to do, and what a fault says.
 ghost use mathlib.Core.Path.{_≡_};
-ghost use Rattle.causes.specs.Causes.{accessFault, pageFault, guestPageFault, disallowed as disallowedOf};
+ghost use Rattle.causes.specs.Causes.{accessFault, pageFault, guestPageFault, disallowed as disallowedOf, stageNumber};
 
 // 01: "read, write or read-for-execute".
 pub enum Access {
@@ -61,5 +61,18 @@ pub fn disallowed() -> FaultInfo
     FaultInfo {
         cause: 260,
         stage: Stage::Directory,
+    }
+}
+
+// A stage's number at a face that knows only numbers.
+pub fn stage_number(s: Stage) -> u64
+    ensures { λ r. ⌜ r ≡ stageNumber s ⌝ }
+{
+    match s {
+        Stage::Directory => 0,
+        Stage::ProcessDirectory => 1,
+        Stage::First => 2,
+        Stage::Second => 3,
+        Stage::MessageTable => 4,
     }
 }
