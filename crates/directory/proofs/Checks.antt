@@ -7,7 +7,7 @@ use native.Mathlib.Omega.{arith}
 use borrow.Author.Tests.{le-leb, eqb-true}
 use lib.Dec.{eqb, ltb, leb}
 use Rattle.memory.specs.Choice.{any}
-use Rattle.memory.specs.Bits.{bits, anySet}
+use Rattle.memory.specs.Bits.{anySet}
 use Rattle.directory.specs.declared.DeviceContext.{DeviceContext}
 use Rattle.directory.specs.declared.ProcessContext.{ProcessContext}
 use Rattle.directory.specs.Pointers.{tooWide}

@@ -1,5 +1,5 @@
 -- A context in the window, over plain values. Assumes nothing.
-use Prim.Native.Nat.{ℕ, _+_, _-_, _*_, _/_, _%_, _≤_, _<_, _^_}
+use Prim.Native.Nat.{ℕ, _+_, _-_, _*_, _≤_}
 use mathlib.Core.Bool.{Bool, true, false, _&&_, not}
 use mathlib.Core.List.{List, [], _∷_, _++_}
 use mathlib.Core.Path.{_≡_, refl, sym, ap, _∙_}
@@ -11,7 +11,7 @@ use Rattle.memory.specs.Choice.{pick, any}
 use Rattle.memory.specs.Bits.{bits, bit, anySet}
 use Rattle.memory.specs.declared.Load.{Load}
 use Rattle.memory.specs.declared.Load.the-variants.{Value, Violation}
-use Rattle.memory.specs.Walk.{Walk, done, load, onValue, loadOr, run}
+use Rattle.memory.specs.Walk.{Walk, done, onValue, loadOr, run}
 use Rattle.memory.specs.Window.{doubleword, memory}
 use Rattle.memory.proofs.Choices.{yes-by, no-by}
 use Rattle.memory.proofs.Loads.{memory-in}

@@ -7,7 +7,7 @@ use borrow.Author.Tests.{not-true, not-false}
 use Rattle.memory.specs.Bits.{bits, bit, anySet}
 use Rattle.memory.specs.declared.Load.{Load}
 use Rattle.memory.specs.declared.Load.the-variants.{Value, Violation}
-use Rattle.memory.specs.Walk.{Walk, load, run}
+use Rattle.memory.specs.Walk.{Walk, run}
 use Rattle.memory.proofs.Choices.{yes-by, no-by}
 use Rattle.memory.proofs.Walks.{then, loads, at}
 use Rattle.causes.specs.declared.FaultInfo.{FaultInfo}
@@ -15,7 +15,7 @@ use Rattle.paging.specs.Stages.{direct}
 use Rattle.paging.specs.declared.Translation.{Translation}
 use Rattle.paging.specs.declared.Translation.the-variants.{To}
 use Rattle.directory.specs.declared.Tree.{Tree}
-use Rattle.directory.specs.declared.Tree.the-variants.{Device, Process}
+use Rattle.directory.specs.declared.Tree.the-variants.{Device}
 use Rattle.directory.specs.declared.Pointed.{Pointed}
 use Rattle.directory.specs.declared.Pointed.the-variants.{Next, Fault}
 use Rattle.directory.specs.Pointers.{loadFault, invalid, misconfigured, pointerOf, onPointed, onPlace, pointers}

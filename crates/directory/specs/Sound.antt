@@ -1,4 +1,4 @@
--- What the numbers in an answer keep to, by cases: their users need it to form addresses.
+-- Bounds that a caller's sums need, by cases; nothing that a reader has to believe.
 use Prim.Native.Nat.{_<_, _^_}
 use Rattle.directory.specs.declared.Pointed.{Pointed}
 use Rattle.directory.specs.declared.Pointed.the-variants.{Next, Fault}

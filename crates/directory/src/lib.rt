@@ -18,10 +18,10 @@ ghost use Rattle.memory.specs.Choice.{any};
 ghost use Rattle.memory.specs.Window.{doubleword, memory};
 ghost use Rattle.memory.specs.Walk.{run};
 ghost use Rattle.paging.specs.Stages.{direct};
+ghost use Rattle.paging.specs.Within.{Within};
 ghost use Rattle.directory.specs.Pointers.{loadFault, invalid as invalidOf, misconfigured as misconfiguredOf, pointerOf, pointers, tooWide};
 ghost use Rattle.directory.specs.Fields.{modeOf, pageOf, bareOf, validMode, firstTable, secondTable, bareTable};
-ghost use Rattle.directory.specs.Device.{pdtv, dpe, deviceIndex, deviceMisconfigured, checkedDevice, deviceContextAt, deviceContextOf};
-ghost use Rattle.paging.specs.Within.{Within};
+ghost use Rattle.directory.specs.Device.{pdtv, dpe, deviceIndex, deviceMisconfigured, deviceContextAt, deviceContextOf};
 ghost use Rattle.directory.specs.Process.{processIndex, processMisconfigured, processContextAt, processReach, processContextOf, processTable, processTooWide, firstTableOf};
 ghost use Rattle.directory.specs.Sound.{Near, Masked, Rooted};
 
@@ -38,7 +38,7 @@ pub enum Pointed {
 }
 
 impl Pointed {
-    // The fault, where it is one.
+    // The fault that it holds; asked of no other.
     fn fault(self) -> FaultInfo
         ensures { λ r. ⌜ ((f : FaultInfo) → self ≡ Pointed.Fault f → r ≡ f) ⌝ }
     {
@@ -90,7 +90,7 @@ pub enum ProcessFound {
 }
 
 impl ProcessFound {
-    // The fault, where it is one.
+    // The fault that it holds; asked of no other.
     fn fault(self) -> FaultInfo
         ensures { λ r. ⌜ ((f : FaultInfo) → self ≡ ProcessFound.Fault f → r ≡ f) ⌝ }
     {
@@ -141,7 +141,7 @@ fn any_set(e: u64, high: u64, low: u64) -> bool
     field(e, high, low) != 0
 }
 
-// The same for all bits of e.
+// The same for all bits of e: a field has at most 63.
 fn nonzero(e: u64) -> bool
     ensures { λ r. ⌜ r ≡ anySet e 63 0 ⌝ }
 {
@@ -156,6 +156,7 @@ fn bit(e: u64, k: u64) -> bool
     (e >> k) % 2 == 1
 }
 
+// An entry that can't be read.
 fn load_fault(t: Tree) -> FaultInfo
     ensures { λ r. ⌜ r ≡ loadFault t ⌝ }
 {
@@ -171,6 +172,7 @@ fn load_fault(t: Tree) -> FaultInfo
     }
 }
 
+// An entry with V = 0.
 fn invalid(t: Tree) -> FaultInfo
     ensures { λ r. ⌜ r ≡ invalidOf t ⌝ }
 {
@@ -186,6 +188,7 @@ fn invalid(t: Tree) -> FaultInfo
     }
 }
 
+// An entry with reserved bits, or a context that fails a check.
 fn misconfigured(t: Tree) -> FaultInfo
     ensures { λ r. ⌜ r ≡ misconfiguredOf t ⌝ }
 {
@@ -217,6 +220,7 @@ fn pointer(t: Tree, v: Load) -> Pointed
     Pointed::Next(field(e, 53, 10))
 }
 
+// Which entry of a table n levels above the leaf is a device's.
 pub fn device_index(d: u64, n: u64) -> u64
     ensures { λ r. ⌜ (r ≡ deviceIndex d n) × (r < 512) ⌝ }
 {
@@ -229,6 +233,7 @@ pub fn device_index(d: u64, n: u64) -> u64
     field(d, 23, 15)
 }
 
+// The same for a process.
 fn process_index(p: u64, n: u64) -> u64
     ensures { λ r. ⌜ (r ≡ processIndex p n) × (r < 512) ⌝ }
 {
@@ -267,6 +272,7 @@ fn device_table(levels: u64, root: u64, d: u64, start: u64, window: &[u8]) -> Po
     Pointed::Next(table)
 }
 
+// Mode and page of iohgatp, fsc and msiptp.
 fn mode(w: u64) -> u64
     ensures { λ r. ⌜ r ≡ modeOf w ⌝ }
 {
@@ -285,6 +291,7 @@ fn bare(w: u64) -> bool
     mode(w) == 0
 }
 
+// Bare, or the one scheme that there is.
 fn valid_mode(w: u64) -> bool
     ensures { λ r. ⌜ r ≡ validMode w ⌝ }
 {
@@ -313,7 +320,7 @@ fn table_reserved(c: DeviceContext) -> bool
         | nonzero(c.reserved)
 }
 
-// A first stage, or a process directory, that can't be.
+// fsc has no mode that PDTV allows, or DPE stands without PDTV.
 fn first_wrong(c: DeviceContext) -> bool
     ensures { λ r. ⌜ r ≡ any ((pdtv c && not (leb (modeOf (c .fsc)) 3)) ∷ (not (pdtv c) && not (validMode (c .fsc))) ∷ (not (pdtv c) && dpe c) ∷ []) ⌝ }
 {
@@ -326,7 +333,7 @@ fn first_wrong(c: DeviceContext) -> bool
     !valid_mode(c.fsc)
 }
 
-// A second stage or a message table that can't be.
+// iohgatp and msiptp have modes that can't be, alone or together, or the root isn't on 16 KiB.
 fn second_wrong(c: DeviceContext) -> bool
     ensures { λ r. ⌜ r ≡ any (not (validMode (c .iohgatp)) ∷ not (leb (modeOf (c .msiptp)) 1) ∷ (not (bareOf (c .iohgatp)) && not (eqb (pageOf (c .iohgatp) % 4) 0)) ∷ (bareOf (c .iohgatp) && not (bareOf (c .msiptp))) ∷ []) ⌝ }
 {
@@ -336,6 +343,7 @@ fn second_wrong(c: DeviceContext) -> bool
     !valid_mode(c.iohgatp) | (1 < mode(c.msiptp)) | (page(c.iohgatp) % 4 != 0)
 }
 
+// All checks of 003, in groups of a few tests.
 fn device_misconfigured(c: DeviceContext) -> bool
     ensures { λ r. ⌜ r ≡ deviceMisconfigured c ⌝ }
 {
@@ -394,6 +402,7 @@ pub fn device_context(levels: u64, root: u64, d: u64, start: u64, window: &[u8])
     context_at(start, window, table * 4096 + 64 * device_index(d, 0))
 }
 
+// What the caller needs of a context: the second stage and the message table.
 pub fn second_table(c: DeviceContext) -> PageTable
     ensures { λ r. ⌜ (r ≡ secondTable (c .iohgatp)) × (r .root < 2 ^ 44) ⌝ }
 {
@@ -433,6 +442,7 @@ fn iosatp(fsc: u64) -> PageTable
     }
 }
 
+// A first stage that changes no address.
 fn bare_table() -> PageTable
     ensures { λ r. ⌜ (r ≡ bareTable) × (r .root < 2 ^ 44) ⌝ }
 {
@@ -443,7 +453,7 @@ fn bare_table() -> PageTable
     }
 }
 
-// The fault of a translation, where it is one.
+// The fault that a translation holds; asked of no other.
 fn translation_fault(t: Translation) -> FaultInfo
     ensures { λ r. ⌜ ((f : FaultInfo) → t ≡ Translation.Fault f → r ≡ f) ⌝ }
 {
@@ -459,6 +469,7 @@ fn process_misconfigured(c: ProcessContext) -> bool
     any_set(c.ta, 11, 3) | any_set(c.ta, 63, 32) | any_set(c.fsc, 59, 44) | !valid_mode(c.fsc)
 }
 
+// The context of a process, at an address.
 fn process_context_at(start: u64, window: &[u8], a: u64) -> ProcessFound
     requires { ⌜ a < 2 ^ 60 ⌝ }
     ensures { λ r. ⌜ r ≡ run (memory start (now (window .entry))) (processContextAt a) ⌝ }
@@ -511,6 +522,7 @@ fn process_table_page(c: DeviceContext, x: Access, p: u64, start: u64, window: &
     Pointed::Next(table)
 }
 
+// The context of a process, by way of the device's context.
 fn process_context(c: DeviceContext, x: Access, p: u64, start: u64, window: &[u8]) -> ProcessFound
     ensures { λ r. ⌜ r ≡ run (memory start (now (window .entry))) (processContextOf c x p) ⌝ }
 {

@@ -51,6 +51,7 @@ returns-3 c = search (context-ways, needs)
 sub-words-at : tie.Need-sub-words-at
 sub-words-at c = search (context-ways, needs)
 
+-- by hand: the search spends its count on the window
 words-at-requires : tie.Need-words-at-requires
 words-at-requires c κs =
     let last = c .before in
