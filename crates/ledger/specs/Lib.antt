@@ -1,2 +1,4 @@
 pub mod Calls
 pub mod Ledger
+pub mod Sums
+pub mod Closes
