@@ -23,64 +23,82 @@ use Rattle.ledger.proofs.Answering.{stored-storing, stored-low, taken-p
 use Rattle.ledger.proofs.Keeping.{callOf}
 use Rattle.ledger.proofs.SumLaws.{total-add, total-cong, total-zero, one-hit}
 
-abbrev pub isStore : Event → ℕ
-isStore store = 1
-isStore successfulTake = 0
-isStore nothing = 0
+abbrev pub oneStore : Event → ℕ
+oneStore store = 1
+oneStore successfulTake = 0
+oneStore nothing = 0
 
-abbrev pub isTake : Event → ℕ
-isTake store = 0
-isTake successfulTake = 1
-isTake nothing = 0
+abbrev pub oneTake : Event → ℕ
+oneTake store = 0
+oneTake successfulTake = 1
+oneTake nothing = 0
 
 -- what a history's calls weigh for one identity
 abbrev pub tally : (Event → ℕ) → ℕ → ℕ → List Call → ℕ
 tally w file n [] = 0
 tally w file n (c ∷ cs) = w (eventOf file n c) + tally w file n cs
 
-entered-stores : (a : Account) (e : Event) → entered a e .stores ≡ a .stores + isStore e
+entered-stores : (a : Account) (e : Event) → entered a e .stores ≡ a .stores + oneStore e
 entered-stores a store = refl
 entered-stores a successfulTake = omega arith
 entered-stores a nothing = omega arith
 
-entered-takes : (a : Account) (e : Event) → entered a e .takes ≡ a .takes + isTake e
+entered-takes : (a : Account) (e : Event) → entered a e .takes ≡ a .takes + oneTake e
 entered-takes a store = omega arith
 entered-takes a successfulTake = refl
 entered-takes a nothing = omega arith
 
 module _ (file n : ℕ) where
-  all-stores : (a : Account) (cs : List Call) → enteredAll file n a cs .stores ≡ a .stores + tally isStore file n cs
+  all-stores : (a : Account) (cs : List Call) → enteredAll file n a cs .stores ≡ a .stores + tally oneStore file n cs
   unfolding enteredAll
   all-stores a [] = omega arith
   all-stores a (c ∷ cs) = omega (arith, all-stores (entered a (eventOf file n c)) cs, entered-stores a (eventOf file n c))
 
-  all-takes : (a : Account) (cs : List Call) → enteredAll file n a cs .takes ≡ a .takes + tally isTake file n cs
+  all-takes : (a : Account) (cs : List Call) → enteredAll file n a cs .takes ≡ a .takes + tally oneTake file n cs
   unfolding enteredAll
   all-takes a [] = omega arith
   all-takes a (c ∷ cs) = omega (arith, all-takes (entered a (eventOf file n c)) cs, entered-takes a (eventOf file n c))
 
-  pub account-stores : (start : ℕ) (bytes : List ℕ) (cs : List Call) → accountOf start bytes cs file n .stores ≡ tally isStore file n cs
+  pub account-stores : (start : ℕ) (bytes : List ℕ) (cs : List Call) → accountOf start bytes cs file n .stores ≡ tally oneStore file n cs
   unfolding accountOf
   account-stores start bytes cs = omega (arith, all-stores (opened (pendingOf start bytes file n)) cs)
 
-  pub account-takes : (start : ℕ) (bytes : List ℕ) (cs : List Call) → accountOf start bytes cs file n .takes ≡ tally isTake file n cs
+  pub account-takes : (start : ℕ) (bytes : List ℕ) (cs : List Call) → accountOf start bytes cs file n .takes ≡ tally oneTake file n cs
   unfolding accountOf
   account-takes start bytes cs = omega (arith, all-takes (opened (pendingOf start bytes file n)) cs)
 
--- one call
-store-weighs : (t : Bool) → isStore (pick t store nothing) ≡ pick t 1 0
+-- one call: a request is no take, and a take no store
+store-weighs : (t : Bool) → oneStore (pick t store nothing) ≡ pick t 1 0
 store-weighs true = refl
 store-weighs false = refl
 
-store-no-take : (t : Bool) → isTake (pick t store nothing) ≡ 0
-store-no-take true = refl
-store-no-take false = refl
+pub request-no-take : (file n i : ℕ) (a : Answer) → oneTake (requestEvent file n i a) ≡ 0
+request-no-take file n i (Stored d) = go (eqb (d .file) file && eqb i n)
+  where
+    go : (t : Bool) → oneTake (pick t store nothing) ≡ 0
+    go true = refl
+    go false = refl
+request-no-take file n i (Translated a) = refl
+request-no-take file n i (Redirected a) = refl
+request-no-take file n i Discarded = refl
+request-no-take file n i (Fault f) = refl
+request-no-take file n i (Refused r) = refl
+request-no-take file n i (Taken w) = refl
 
-take-no-store : (t : Bool) → isStore (pick t successfulTake nothing) ≡ 0
-take-no-store true = refl
-take-no-store false = refl
+take-no-store : (file n f i : ℕ) (a : Answer) → oneStore (takeEvent file n f i a) ≡ 0
+take-no-store file n f i (Taken w) = go (eqb f file && (eqb i n && eqb w 1))
+  where
+    go : (t : Bool) → oneStore (pick t successfulTake nothing) ≡ 0
+    go true = refl
+    go false = refl
+take-no-store file n f i (Translated a) = refl
+take-no-store file n f i (Redirected a) = refl
+take-no-store file n f i (Stored d) = refl
+take-no-store file n f i Discarded = refl
+take-no-store file n f i (Fault g) = refl
+take-no-store file n f i (Refused r) = refl
 
-take-weighs : (a b c : Bool) → isTake (pick (a && (b && c)) successfulTake nothing) ≡ pick (a && b) (pick c 1 0) 0
+take-weighs : (a b c : Bool) → oneTake (pick (a && (b && c)) successfulTake nothing) ≡ pick (a && b) (pick c 1 0) 0
 take-weighs true true true = refl
 take-weighs true true false = refl
 take-weighs true false c = refl
@@ -91,7 +109,7 @@ module _ (start : ℕ) (fs : List ℕ) (d : Different fs) where
   weighed w c = total fs (λ f n. w (eventOf f n c))
 
   request-stores : (bytes : List ℕ) (mode root : ℕ) (q : DeviceRequest) (value : ℕ) (a : Answer) → requestOf (settings start mode root) bytes q value ≡ a
-      → total fs (λ f n. isStore (requestEvent f n (identityOf q value) a)) ≡ pick (storeTo fs (request mode root q value) (numbersOf a)) 1 0
+      → total fs (λ f n. oneStore (requestEvent f n (identityOf q value) a)) ≡ pick (storeTo fs (request mode root q value) (numbersOf a)) 1 0
   request-stores bytes mode root q value (Stored t) e =
       total-cong fs _ _ (λ f n. store-weighs (eqb (t .file) f && eqb (identityOf q value) n))
       ∙ one-hit fs (t .file) (identityOf q value) 1 d (stored-low start bytes mode root q value t (stored-storing start bytes mode root q value t e))
@@ -102,27 +120,8 @@ module _ (start : ℕ) (fs : List ℕ) (d : Different fs) where
   request-stores bytes mode root q value (Refused r) e = total-zero fs
   request-stores bytes mode root q value (Taken w) e = total-zero fs
 
-  request-takes : (q : DeviceRequest) (value : ℕ) (a : Answer) → total fs (λ f n. isTake (requestEvent f n (identityOf q value) a)) ≡ 0
-  request-takes q value (Stored t) =
-      total-cong fs _ _ (λ f n. store-no-take (eqb (t .file) f && eqb (identityOf q value) n)) ∙ total-zero fs
-  request-takes q value (Translated a) = total-zero fs
-  request-takes q value (Redirected a) = total-zero fs
-  request-takes q value Discarded = total-zero fs
-  request-takes q value (Fault f) = total-zero fs
-  request-takes q value (Refused r) = total-zero fs
-  request-takes q value (Taken w) = total-zero fs
-
-  take-stores : (g i : ℕ) (a : Answer) → total fs (λ f n. isStore (takeEvent f n g i a)) ≡ 0
-  take-stores g i (Taken w) = total-cong fs _ _ (λ f n. take-no-store (eqb g f && (eqb i n && eqb w 1))) ∙ total-zero fs
-  take-stores g i (Stored t) = total-zero fs
-  take-stores g i (Translated a) = total-zero fs
-  take-stores g i (Redirected a) = total-zero fs
-  take-stores g i Discarded = total-zero fs
-  take-stores g i (Fault f) = total-zero fs
-  take-stores g i (Refused r) = total-zero fs
-
   take-takes : (bytes : List ℕ) (g i : ℕ) (a : Answer) → takeOf start bytes g i ≡ a
-      → total fs (λ f n. isTake (takeEvent f n g i a)) ≡ pick (takeFrom fs (take g i) (numbersOf a)) 1 0
+      → total fs (λ f n. oneTake (takeEvent f n g i a)) ≡ pick (takeFrom fs (take g i) (numbersOf a)) 1 0
   take-takes bytes g i (Taken w) e =
       total-cong fs _ _ (λ f n. take-weighs (eqb g f) (eqb i n) (eqb w 1))
       ∙ one-hit fs g i (pick (eqb w 1) 1 0) d (take-passed start (length bytes) g i (taken-passed start bytes g i w e) .1)
@@ -140,27 +139,29 @@ module _ (start : ℕ) (fs : List ℕ) (d : Different fs) where
   take-takes bytes g i (Fault f) e = total-zero fs
   take-takes bytes g i (Refused r) e = total-zero fs
 
-  call-stores : (bytes : List ℕ) (o : Op) → weighed isStore (callOf start bytes o) ≡ pick (storeTo fs o (numbersOf (answerOf start bytes o))) 1 0
+  call-stores : (bytes : List ℕ) (o : Op) → weighed oneStore (callOf start bytes o) ≡ pick (storeTo fs o (numbersOf (answerOf start bytes o))) 1 0
   call-stores bytes (request mode root q value) = request-stores bytes mode root q value _ refl
-  call-stores bytes (take g i) = take-stores g i (takeOf start bytes g i)
+  call-stores bytes (take g i) =
+      total-cong fs _ _ (λ f n. take-no-store f n g i (takeOf start bytes g i)) ∙ total-zero fs
 
-  call-takes : (bytes : List ℕ) (o : Op) → weighed isTake (callOf start bytes o) ≡ pick (takeFrom fs o (numbersOf (answerOf start bytes o))) 1 0
-  call-takes bytes (request mode root q value) = request-takes q value (requestOf (settings start mode root) bytes q value)
+  call-takes : (bytes : List ℕ) (o : Op) → weighed oneTake (callOf start bytes o) ≡ pick (takeFrom fs o (numbersOf (answerOf start bytes o))) 1 0
+  call-takes bytes (request mode root q value) =
+      total-cong fs _ _ (λ f n. request-no-take f n (identityOf q value) (requestOf (settings start mode root) bytes q value)) ∙ total-zero fs
   call-takes bytes (take g i) = take-takes bytes g i _ refl
 
   -- every call of a list
-  tally-stores : (bytes : List ℕ) (ops : List Op) → total fs (λ f n. tally isStore f n (history start bytes ops)) ≡ howMany (storeTo fs) (history start bytes ops)
+  tally-stores : (bytes : List ℕ) (ops : List Op) → total fs (λ f n. tally oneStore f n (history start bytes ops)) ≡ howMany (storeTo fs) (history start bytes ops)
   unfolding history howMany
   tally-stores bytes [] = total-zero fs
   tally-stores bytes (o ∷ os) =
-      total-add fs (λ f n. isStore (eventOf f n (callOf start bytes o))) (λ f n. tally isStore f n (history start (afterOf start bytes o) os))
+      total-add fs (λ f n. oneStore (eventOf f n (callOf start bytes o))) (λ f n. tally oneStore f n (history start (afterOf start bytes o) os))
       ∙ ap₂ _+_ (call-stores bytes o) (tally-stores (afterOf start bytes o) os)
 
-  tally-takes : (bytes : List ℕ) (ops : List Op) → total fs (λ f n. tally isTake f n (history start bytes ops)) ≡ howMany (takeFrom fs) (history start bytes ops)
+  tally-takes : (bytes : List ℕ) (ops : List Op) → total fs (λ f n. tally oneTake f n (history start bytes ops)) ≡ howMany (takeFrom fs) (history start bytes ops)
   unfolding history howMany
   tally-takes bytes [] = total-zero fs
   tally-takes bytes (o ∷ os) =
-      total-add fs (λ f n. isTake (eventOf f n (callOf start bytes o))) (λ f n. tally isTake f n (history start (afterOf start bytes o) os))
+      total-add fs (λ f n. oneTake (eventOf f n (callOf start bytes o))) (λ f n. tally oneTake f n (history start (afterOf start bytes o) os))
       ∙ ap₂ _+_ (call-takes bytes o) (tally-takes (afterOf start bytes o) os)
 
   pub stores-counted : (bytes : List ℕ) (ops : List Op) → total fs (λ f n. accountAfter start bytes ops f n .stores) ≡ howMany (storeTo fs) (history start bytes ops)

@@ -5,3 +5,6 @@ pub mod SumLaws
 pub mod Counting
 pub mod Lists
 pub mod Closing
+pub mod Files
+pub mod Corollaries
+pub mod Whole

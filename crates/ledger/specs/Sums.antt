@@ -34,15 +34,23 @@ abbrev pub Files : ℕ → ℕ → List ℕ → Type 0
 Files start len [] = Unit {0}
 Files start len (f ∷ fs) = (isFile start len f ≡ true) × Files start len fs
 
--- a call with these numbers is a store to one of the files: "A request answered 2 is a store: its file is the answer's first number"
-abbrev pub storeTo : List ℕ → Op → Numbers → Bool
-storeTo files (request mode root q d) a = eqb (a .kind) 2 && among files (a .first)
-storeTo files (take f i) a = false
+-- a call with these numbers is a store: "A request answered 2 is a store: its file is the answer's first number"
+abbrev pub isStore : Op → Numbers → Bool
+isStore (request mode root q d) a = eqb (a .kind) 2
+isStore (take f i) a = false
 
--- a successful take from one of them: "A take answered 6 with 1 is a successful take of the file and identity that it gives"
+-- or a successful take: "A take answered 6 with 1 is a successful take of the file and identity that it gives"
+abbrev pub isTake : Op → Numbers → Bool
+isTake (request mode root q d) a = false
+isTake (take f i) a = eqb (a .kind) 6 && eqb (a .first) 1
+
+-- to or from one of the files
+abbrev pub storeTo : List ℕ → Op → Numbers → Bool
+storeTo files o a = isStore o a && among files (a .first)
+
 abbrev pub takeFrom : List ℕ → Op → Numbers → Bool
 takeFrom files (request mode root q d) a = false
-takeFrom files (take f i) a = eqb (a .kind) 6 && (eqb (a .first) 1 && among files f)
+takeFrom files (take f i) a = isTake (take f i) a && among files f
 
 -- how many calls of a history are
 unfoldable pub howMany : (Op → Numbers → Bool) → List Call → ℕ
