@@ -8,3 +8,4 @@ pub mod Closing
 pub mod Files
 pub mod Corollaries
 pub mod Whole
+pub mod Instance
