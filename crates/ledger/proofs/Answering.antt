@@ -1,5 +1,5 @@
 -- One call on any bytes: when it is answered 2, 5 or 6, which bytes it changes, and what notice it gives. Assumes nothing.
-use Prim.Native.Nat.{ℕ, zero, suc, _-_, _<_}
+use Prim.Native.Nat.{ℕ, zero, suc, _<_}
 use mathlib.Core.Path.{_≡_, refl, sym, ap, _∙_}
 use mathlib.Core.Logic.{_↔_}
 use mathlib.Core.Bool.{Bool, true, false, not, _&&_}
@@ -7,13 +7,13 @@ use mathlib.Core.List.{List, [], _∷_}
 use native.Mathlib.Omega.{arith}
 use borrow.Author.Tests.{eq-eqb, ltb-false}
 use lib.Dec.{eqb, ltb}
-use lib.ListN.{length, getD}
+use lib.ListN.{length}
 use lib.Seq.{getD-set-other}
 use Rattle.memory.specs.Choice.{pick, unlessRefused}
 use Rattle.memory.specs.Window.{memory}
 use Rattle.memory.specs.Walk.{run}
 use Rattle.message.specs.declared.Destination.{Destination}
-use Rattle.interrupt_file.specs.File.{isFile, placeOf, pendingOf, afterStore, afterTake}
+use Rattle.interrupt_file.specs.File.{isFile, pendingOf, afterStore, afterTake}
 use Rattle.interrupt_file.proofs.Pending.{length-after-store, length-after-take}
 use Rattle.iommu.specs.declared.DeviceRequest.{DeviceRequest}
 use Rattle.iommu.specs.declared.Outcome.{Outcome}
@@ -27,7 +27,7 @@ use Rattle.iommu.specs.Files.{takeOf, afterTakeOf}
 use Rattle.iommu.proofs.Filing.{take-made, take-refused, take-cleared, take-kept}
 use Rattle.iommu.proofs.Finishing.{record-stores, record-low, request-finishes}
 use Rattle.ledger.specs.Calls.{Op, request, take, Call, settings, answerOf, afterOf}
-use Rattle.ledger.specs.Ledger.{Event, store, successfulTake, nothing, eventOf, requestEvent, takeEvent}
+use Rattle.ledger.specs.Ledger.{store, successfulTake, nothing, eventOf, requestEvent, takeEvent}
 use Rattle.ledger.specs.Closes.{Storing, OneByte, noticeOf, noticesOf}
 
 pub no-way : _≡_ {A = ℕ} 0 1 → ⊥

@@ -1,22 +1,19 @@
 -- THE LEDGER CLOSES: demand 3, of any list of calls, any window start and any bytes at the start. Assumes nothing.
 use Prim.Native.Nat.{ℕ, _+_, _<_}
-use mathlib.Core.Path.{_≡_, refl, sym, ap, subst, _∙_}
-use mathlib.Core.Logic.{_↔_}
-use mathlib.Core.Bool.{true}
-use mathlib.Core.List.{List, [], _∷_, _++_}
+use mathlib.Core.Path.{_≡_, ap, _∙_}
+use mathlib.Core.List.{List, _∷_, _++_}
 use native.Mathlib.Omega.{arith}
 use lib.ListN.{length}
 use Rattle.message.specs.declared.Destination.{Destination}
-use Rattle.interrupt_file.specs.File.{isFile, pendingOf}
+use Rattle.interrupt_file.specs.File.{pendingOf}
 use Rattle.interrupt_file.proofs.Pending.{pending-lt}
 use Rattle.iommu.specs.declared.DeviceRequest.{DeviceRequest}
-use Rattle.iommu.specs.declared.Answer.{Answer}
-use Rattle.iommu.specs.declared.Answer.the-variants.{Stored, Refused, Taken}
+use Rattle.iommu.specs.declared.Answer.the-variants.{Stored, Taken}
 use Rattle.iommu.specs.Refusals.{takeRefusal}
 use Rattle.iommu.specs.Request.{identityOf}
-use Rattle.ledger.specs.Calls.{Op, request, take, Call, settings, bytesAfter, history}
+use Rattle.ledger.specs.Calls.{Op, request, take, bytesAfter, history}
 use Rattle.ledger.specs.Ledger.{Account}
-use Rattle.ledger.specs.Sums.{total, Different, Files}
+use Rattle.ledger.specs.Sums.{Different, Files}
 use Rattle.ledger.specs.Closes.{Closes, Adds, OneByte, accountAfter, pendingAfter, answerAt, afterAt, callAt}
 use Rattle.ledger.proofs.Answering.{stored-storing, storing-stored, take-passed, take-taken, refused-iff, taken-passed, store-one-byte, take-one-byte, stored-bytes, taken-bytes, other-bytes, one-notice, no-notice}
 use Rattle.ledger.proofs.SumLaws.{total-add, total-ext}

@@ -1,31 +1,21 @@
 -- What a buyer asks next: nothing is lost, nothing is invented, and the change in pending bits. Assumes nothing.
-use Prim.Native.Nat.{ℕ, zero, suc, _+_, _<_}
-use mathlib.Core.Path.{_≡_, refl, sym, ap, ap₂, subst, _∙_}
-use mathlib.Core.Bool.{Bool, true, false, _&&_}
+use Prim.Native.Nat.{ℕ, _+_, _<_}
+use mathlib.Core.Path.{_≡_, refl, sym, ap, _∙_}
+use mathlib.Core.Bool.{true}
 use mathlib.Core.List.{List, [], _∷_, _++_}
 use native.Mathlib.Omega.{arith}
-use lib.Dec.{eqb}
 use lib.ListN.{length}
-use Rattle.memory.specs.Choice.{pick}
-use Rattle.message.specs.declared.Destination.{Destination}
 use Rattle.interrupt_file.specs.File.{isFile, pendingOf}
-use Rattle.iommu.specs.declared.DeviceRequest.{DeviceRequest}
-use Rattle.iommu.specs.declared.Answer.{Answer}
-use Rattle.iommu.specs.declared.Answer.the-variants.{Translated, Redirected, Stored, Discarded, Fault, Refused, Taken}
-use Rattle.iommu.specs.Answers.{numbersOf}
+use Rattle.iommu.specs.declared.Answer.the-variants.{Taken}
 use Rattle.iommu.specs.Request.{identityOf, requestOf}
-use Rattle.iommu.specs.Files.{takeOf}
-use Rattle.ledger.specs.Calls.{Op, request, take, Call, settings, answerOf, afterOf, bytesAfter, history}
-use Rattle.ledger.specs.Ledger.{Event, store, successfulTake, nothing, eventOf, requestEvent, Account, opened, entered, enteredAll, accountOf}
-use Rattle.ledger.specs.Sums.{total, among, Different, Files, isStore, isTake, storeTo, takeFrom, howMany}
-use Rattle.ledger.specs.Closes.{Comes, Closes, Adds, accountAfter, pendingAfter, answerAt}
-use Rattle.ledger.specs.Whole.{NoTakes, windowFiles}
-use Rattle.ledger.proofs.Answering.{no-way, stored-storing, take-passed, taken-passed, take-taken}
-use Rattle.ledger.proofs.Keeping.{length-kept}
+use Rattle.ledger.specs.Calls.{Op, request, take, Call, settings, afterOf, bytesAfter, history}
+use Rattle.ledger.specs.Ledger.{Event, store, successfulTake, nothing, eventOf, Account, opened, entered, enteredAll, accountOf}
+use Rattle.ledger.specs.Sums.{total, Different, Files, storeTo, takeFrom, howMany}
+use Rattle.ledger.specs.Closes.{Comes, accountAfter, pendingAfter, answerAt}
+use Rattle.ledger.specs.Whole.{NoTakes}
+use Rattle.ledger.proofs.Answering.{taken-passed, take-taken}
 use Rattle.ledger.proofs.Counting.{oneStore, oneTake, tally, request-no-take, account-stores, account-takes}
-use Rattle.ledger.proofs.Lists.{length-after, mark-is}
 use Rattle.ledger.proofs.Closing.{closes}
-use Rattle.ledger.proofs.Files.{files-different, files-are, files-all}
 
 -- with no successful take a mark that waits goes on waiting, and a store makes it wait
 module _ (file n : ℕ) where

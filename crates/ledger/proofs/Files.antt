@@ -1,14 +1,13 @@
 -- The list of a window's files: they are different, they are files of the window, and every file of the window is among them. Assumes nothing.
 use Prim.Native.Nat.{ℕ, zero, suc, _+_, _-_, _*_, _/_, _%_, _≤_, _<_}
-use mathlib.Core.Path.{_≡_, refl, sym, ap, _∙_}
-use mathlib.Core.Bool.{Bool, true, false, _||_}
-use mathlib.Core.List.{List, [], _∷_}
+use mathlib.Core.Path.{_≡_, refl, sym}
+use mathlib.Core.Bool.{true, false, _||_}
 use native.Mathlib.Omega.{arith}
 use native.Mathlib.Decide.{ℕ-discrete}
 use borrow.Author.Tests.{eq-eqb, ne-eqb}
 use lib.Dec.{eqb}
 use Rattle.interrupt_file.specs.File.{isFile}
-use Rattle.interrupt_file.proofs.Files.{FileAt, file-at, is-file}
+use Rattle.interrupt_file.proofs.Files.{file-at, is-file}
 use Rattle.ledger.specs.Sums.{among, Different, Files}
 use Rattle.ledger.specs.Whole.{filesFrom, firstFile, windowFiles}
 

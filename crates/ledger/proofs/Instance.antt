@@ -1,5 +1,5 @@
 -- The ledger of a small list of calls, computed: two stores of one identity merge, a take, and calls that change nothing. Assumes nothing.
-use Prim.Native.Nat.{ℕ, _+_, _-_, _*_, _/_, _%_, _^_}
+use Prim.Native.Nat.{ℕ, _+_, _-_, _/_, _%_, _^_}
 use mathlib.Core.Path.{_≡_, refl}
 use mathlib.Core.Bool.{false}
 use mathlib.Core.List.{List, [], _∷_, _++_}
@@ -7,7 +7,6 @@ use native.Mathlib.Omega.{arith}
 use lib.Count.{onesIn, ones}
 use lib.ListN.{length, replicate}
 use Rattle.memory.specs.Window.{memory}
-use Rattle.causes.specs.declared.Access.{Access}
 use Rattle.causes.specs.declared.Access.the-variants.{Write}
 use Rattle.directory.specs.declared.ProcessId.the-variants.{Absent}
 use Rattle.paging.specs.Scheme.{legalOf, indexOf}
@@ -21,7 +20,6 @@ use Rattle.message.specs.Recognition.{recognised, packed, extract}
 use Rattle.message.specs.Table.{translateReserved, recordReserved, onNotice, onTranslate, onEntry, messageOf}
 use Rattle.interrupt_file.specs.Bit.{bitAt, raised, lowered}
 use Rattle.interrupt_file.specs.File.{isFile, pendingOf, afterStore, afterTake}
-use Rattle.iommu.specs.declared.DeviceRequest.{DeviceRequest}
 use Rattle.iommu.specs.declared.Numbers.{Numbers}
 use Rattle.iommu.specs.Answers.{numbersOf, numbers}
 use Rattle.iommu.specs.Refusals.{badWindow, requestRefusal, takeRefusal}

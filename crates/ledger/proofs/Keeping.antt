@@ -1,14 +1,13 @@
 -- What one call keeps of one bit: it goes as the ledger's event says, and a successful take finds it at 1. Assumes nothing.
-use Prim.Native.Nat.{ℕ, zero, suc, _-_, _<_}
-use mathlib.Core.Path.{_≡_, refl, sym, ap, subst, _∙_}
+use Prim.Native.Nat.{ℕ, zero, suc, _<_}
+use mathlib.Core.Path.{_≡_, refl, sym, subst, _∙_}
 use mathlib.Core.Bool.{Bool, true, false, _&&_}
-use mathlib.Core.List.{List, [], _∷_}
+use mathlib.Core.List.{List}
 use native.Mathlib.Omega.{arith}
 use borrow.Author.Tests.{eqb-true, eqb-false}
 use lib.Dec.{eqb}
 use lib.ListN.{length}
 use Rattle.memory.specs.Choice.{pick, unlessRefused}
-use Rattle.message.specs.declared.Destination.{Destination}
 use Rattle.interrupt_file.specs.File.{isFile, pendingOf, afterStore, afterTake}
 use Rattle.interrupt_file.proofs.Pending.{length-after-store, length-after-take, pending-lt, pending-stored, pending-taken, pending-store-other, pending-take-other}
 use Rattle.iommu.specs.declared.DeviceRequest.{DeviceRequest}
@@ -20,7 +19,7 @@ use Rattle.iommu.specs.Files.{takeOf, afterTakeOf}
 use Rattle.ledger.specs.Calls.{Op, request, take, Call, settings, answerOf, afterOf}
 use Rattle.ledger.specs.Ledger.{Event, store, successfulTake, nothing, eventOf, requestEvent, takeEvent}
 use Rattle.ledger.proofs.Machine.{step, Told, Keeps}
-use Rattle.ledger.proofs.Answering.{no-way, stored-storing, stored-low, take-passed}
+use Rattle.ledger.proofs.Answering.{stored-storing, stored-low, take-passed}
 
 -- the machine of the shipped routines: a call as its caller saw it
 abbrev pub callOf : ℕ → List ℕ → Op → Call

@@ -8,4 +8,5 @@ pub mod Closing
 pub mod Files
 pub mod Corollaries
 pub mod Whole
+pub mod Reported
 pub mod Instance

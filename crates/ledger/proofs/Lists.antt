@@ -1,12 +1,12 @@
 -- Lists of calls: their splits, and the ledger's machine for one file and identity. Assumes nothing.
 use Prim.Native.Nat.{ℕ, _+_, _<_}
-use mathlib.Core.Path.{_≡_, refl, sym, ap, ap₂, subst, _∙_}
+use mathlib.Core.Path.{_≡_, refl, sym, ap, subst, _∙_}
 use mathlib.Core.Bool.{true}
 use mathlib.Core.List.{List, [], _∷_, _++_}
 use native.Mathlib.Omega.{arith}
 use lib.ListN.{length}
 use Rattle.interrupt_file.specs.File.{isFile, pendingOf}
-use Rattle.ledger.specs.Calls.{Op, Call, answerOf, afterOf, bytesAfter, history}
+use Rattle.ledger.specs.Calls.{Op, Call, afterOf, bytesAfter, history}
 use Rattle.ledger.specs.Ledger.{eventOf, Account, opened, entered, enteredAll, accountOf}
 use Rattle.ledger.specs.Closes.{accountAfter, pendingAfter}
 use Rattle.ledger.proofs.Machine.{final, calls, Premises, enter, Ledger, ledger-of}

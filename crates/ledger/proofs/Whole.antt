@@ -1,6 +1,6 @@
 -- The change in pending bits over all files of the window: every store and every successful take counts. Assumes nothing.
 use Prim.Native.Nat.{ℕ, _+_}
-use mathlib.Core.Path.{_≡_, refl, sym, ap, ap₂, subst, _∙_}
+use mathlib.Core.Path.{_≡_, refl, ap, ap₂, subst, _∙_}
 use mathlib.Core.Bool.{Bool, true, false, _&&_}
 use mathlib.Core.List.{List, [], _∷_}
 use lib.Dec.{eqb}
@@ -12,7 +12,7 @@ use Rattle.iommu.specs.declared.Answer.the-variants.{Translated, Redirected, St
 use Rattle.iommu.specs.Answers.{numbersOf}
 use Rattle.iommu.specs.Request.{requestOf}
 use Rattle.iommu.specs.Files.{takeOf}
-use Rattle.ledger.specs.Calls.{Op, request, take, Call, settings, answerOf, afterOf, history}
+use Rattle.ledger.specs.Calls.{Op, request, take, settings, answerOf, afterOf, history}
 use Rattle.ledger.specs.Sums.{total, among, isStore, isTake, storeTo, takeFrom, howMany}
 use Rattle.ledger.specs.Closes.{accountAfter, pendingAfter}
 use Rattle.ledger.specs.Whole.{windowFiles}

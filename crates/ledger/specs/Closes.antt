@@ -21,7 +21,7 @@ use Rattle.iommu.specs.Refusals.{requestRefusal, takeRefusal}
 use Rattle.iommu.specs.Translate.{translateOf}
 use Rattle.iommu.specs.Request.{identityOf, storable}
 use Rattle.ledger.specs.Calls.{Op, request, take, Call, settings, answerOf, afterOf, bytesAfter, history}
-use Rattle.ledger.specs.Ledger.{Account, Event, store, eventOf, accountOf}
+use Rattle.ledger.specs.Ledger.{Account, store, eventOf, accountOf}
 use Rattle.ledger.specs.Sums.{total, Different, Files, storeTo, takeFrom, howMany}
 
 -- o is a call of the list, and the calls of `before` are those before it

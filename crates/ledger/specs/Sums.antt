@@ -6,7 +6,6 @@ use mathlib.Core.List.{List, [], _∷_}
 use lib.Dec.{eqb}
 use Rattle.memory.specs.Choice.{pick}
 use Rattle.interrupt_file.specs.File.{isFile}
-use Rattle.iommu.specs.declared.Answer.{Answer}
 use Rattle.iommu.specs.declared.Numbers.{Numbers}
 use Rattle.iommu.specs.Answers.{numbersOf}
 use Rattle.ledger.specs.Calls.{Op, request, take, Call}
@@ -17,9 +16,12 @@ sumTo zero g = 0
 sumTo (suc k) g = g k + sumTo k g
 
 -- "a sum over files adds up their 2,048 identities each"
+unfoldable pub ofFile : (ℕ → ℕ) → ℕ
+ofFile g = sumTo 2048 g
+
 unfoldable pub total : List ℕ → (ℕ → ℕ → ℕ) → ℕ
 total [] g = 0
-total (f ∷ fs) g = sumTo 2048 (g f) + total fs g
+total (f ∷ fs) g = ofFile (g f) + total fs g
 
 -- whether a file is in a list; a list of different files; and one of files of the window
 abbrev pub among : List ℕ → ℕ → Bool
