@@ -51,70 +51,71 @@ pub record OneByte (start : ℕ) (before after : List ℕ) (file n : ℕ) : Type
   pub long : length after ≡ length before
   pub others : (i : ℕ) → (i ≡ placeOf file n - start → ⊥) → getD after i 0 ≡ getD before i 0
 
+-- on a window with these bytes at the start
 module _ (start : ℕ) (bytes : List ℕ) where
-  -- the account of an identity after a list of calls, and its pending bit
+  -- after a list of calls: the bytes, an identity's pending bit, and its account, from the history
+  abbrev pub left : List Op → List ℕ
+  left ops = bytesAfter start bytes ops
+
+  abbrev pub pendingAfter : List Op → ℕ → ℕ → ℕ
+  pendingAfter ops file n = pendingOf start (left ops) file n
+
   abbrev pub accountAfter : List Op → ℕ → ℕ → Account
   accountAfter ops file n = accountOf start bytes (history start bytes ops) file n
 
-  abbrev pub pendingAfter : List Op → ℕ → ℕ → ℕ
-  pendingAfter ops file n = pendingOf start (bytesAfter start bytes ops) file n
-
-  -- what a call is answered that comes after those of `before`, and the bytes that it leaves
+  -- a call that comes after those of `before`: its answer, itself as the ledger is fed it, and the bytes that it leaves
   abbrev pub answerAt : List Op → Op → Answer
-  answerAt before o = answerOf start (bytesAfter start bytes before) o
-
-  abbrev pub afterAt : List Op → Op → List ℕ
-  afterAt before o = afterOf start (bytesAfter start bytes before) o
+  answerAt before o = answerOf start (left before) o
 
   abbrev pub callAt : List Op → Op → Call
   callAt before o = record { op = o; answer = answerAt before o }
 
-  -- the sums of a list of files; the sum of stores is how many stores there were, and that of takes how many successful takes
+  abbrev pub afterAt : List Op → Op → List ℕ
+  afterAt before o = afterOf start (left before) o
+
+  -- the sums of a list of files; the stores add up to the number of stores in the history, and the takes to that of successful takes
   pub record Adds (ops : List Op) (files : List ℕ) : Type 0 where
     pub balance : total files (pendingOf start bytes) + total files (λ f n. accountAfter ops f n .stores)
         ≡ total files (λ f n. accountAfter ops f n .takes) + total files (λ f n. accountAfter ops f n .merged) + total files (pendingAfter ops)
     pub stores : total files (λ f n. accountAfter ops f n .stores) ≡ howMany (storeTo files) (history start bytes ops)
     pub takes : total files (λ f n. accountAfter ops f n .takes) ≡ howMany (takeFrom files) (history start bytes ops)
 
--- the claim about a list of calls, on a memory with any bytes at the start
-pub record Closes (start : ℕ) (bytes : List ℕ) (ops : List Op) : Type 0 where
-  -- "fed the window's starting bytes, then each call's arguments and its answer": the history has each call with the answer on the bytes that the last one left
-  pub calls : (before : List Op) (o : Op) (rest : List Op) → ops ≡ before ++ (o ∷ rest)
-      → (history start bytes ops ≡ history start bytes before ++ (callAt start bytes before o ∷ history start (afterAt start bytes before o) rest))
-      × (bytesAfter start bytes ops ≡ bytesAfter start (afterAt start bytes before o) rest)
-  -- for each file and identity: pending at the start + stores ≡ successful takes + merged stores + pending at the end
-  pub balance : (file n : ℕ) → isFile start (length bytes) file ≡ true → n < 2048
-      → pendingOf start bytes file n + accountAfter start bytes ops file n .stores
-      ≡ accountAfter start bytes ops file n .takes + accountAfter start bytes ops file n .merged + pendingAfter start bytes ops file n
-  -- "demand 3's sums hold with these counts"
-  pub sums : (files : List ℕ) → Different files → Files start (length bytes) files → Adds start bytes ops files
-  -- "A request is answered 2, its first number the file that its entry names, exactly when the standards, read with this document, make it stored"
-  pub stored : (before : List Op) (mode root : ℕ) (q : DeviceRequest) (value : ℕ) (d : Destination) → Comes ops before (request mode root q value)
-      → (answerAt start bytes before (request mode root q value) ≡ Stored d)
-      ↔ Storing start (bytesAfter start bytes before) mode root q value d
-  -- "A take that isn't refused is answered 6, with 1 exactly when the mark is waiting, else with 0"
-  pub taken : (before : List Op) (file n : ℕ) → Comes ops before (take file n) → takeRefusal start (length bytes) file n ≡ 0
-      → (answerAt start bytes before (take file n) ≡ Taken (accountAfter start bytes before file n .mark))
-      × (accountAfter start bytes before file n .mark < 2)
-  pub refused : (before : List Op) (file n r : ℕ) → Comes ops before (take file n)
-      → (answerAt start bytes before (take file n) ≡ Refused r) ↔ ((takeRefusal start (length bytes) file n ≡ r) × (r ≡ 0 → ⊥))
-  -- "After the list each pending bit is 1 exactly when its mark is waiting"; both are 0 or 1
-  pub marks : (file n : ℕ) → isFile start (length bytes) file ≡ true → n < 2048
-      → (pendingAfter start bytes ops file n ≡ accountAfter start bytes ops file n .mark) × (pendingAfter start bytes ops file n < 2)
-  -- every store gives exactly one notice, "as the entry gives them" by `stored`
-  pub notices : (before : List Op) (o : Op) → Comes ops before o → (file n : ℕ) → eventOf file n (callAt start bytes before o) ≡ store
-      → noticesOf (numbersOf (answerAt start bytes before o)) ≡ noticeOf (numbersOf (answerAt start bytes before o)) ∷ []
-  -- and no other call gives one
-  pub silent : (before : List Op) (o : Op) → Comes ops before o → ((file n : ℕ) → eventOf file n (callAt start bytes before o) ≡ store → ⊥)
-      → noticesOf (numbersOf (answerAt start bytes before o)) ≡ []
-  -- a store or a take changes no byte but the one with its bit
-  pub storeChanges : (before : List Op) (mode root : ℕ) (q : DeviceRequest) (value : ℕ) (d : Destination) → Comes ops before (request mode root q value)
-      → answerAt start bytes before (request mode root q value) ≡ Stored d
-      → OneByte start (bytesAfter start bytes before) (afterAt start bytes before (request mode root q value)) (d .file) (identityOf q value)
-  pub takeChanges : (before : List Op) (file n w : ℕ) → Comes ops before (take file n)
-      → answerAt start bytes before (take file n) ≡ Taken w
-      → OneByte start (bytesAfter start bytes before) (afterAt start bytes before (take file n)) file n
-  -- every other call changes none
-  pub otherwise : (before : List Op) (o : Op) → Comes ops before o → ((d : Destination) → answerAt start bytes before o ≡ Stored d → ⊥)
-      → ((w : ℕ) → answerAt start bytes before o ≡ Taken w → ⊥)
-      → afterAt start bytes before o ≡ bytesAfter start bytes before
+  -- THE CLAIM about a list of calls
+  pub record Closes (ops : List Op) : Type 0 where
+    -- "fed the window's starting bytes, then each call's arguments and its answer": the history has each call with its answer on the bytes that the last one left
+    pub calls : (before : List Op) (o : Op) (rest : List Op) → ops ≡ before ++ (o ∷ rest)
+        → (history start bytes ops ≡ history start bytes before ++ (callAt before o ∷ history start (afterAt before o) rest))
+        × (left ops ≡ bytesAfter start (afterAt before o) rest)
+    -- 1. for each file and identity: pending at the start + stores ≡ successful takes + merged stores + pending at the end
+    pub balance : (file n : ℕ) → isFile start (length bytes) file ≡ true → n < 2048
+        → pendingOf start bytes file n + accountAfter ops file n .stores
+        ≡ accountAfter ops file n .takes + accountAfter ops file n .merged + pendingAfter ops file n
+    -- 2. "demand 3's sums hold with these counts; a sum over files adds up their 2,048 identities each"
+    pub sums : (files : List ℕ) → Different files → Files start (length bytes) files → Adds ops files
+    -- 3. "A request is answered 2, its first number the file that its entry names, exactly when the standards, read with this document, make it stored"; d is all three numbers
+    pub stored : (before : List Op) (mode root : ℕ) (q : DeviceRequest) (value : ℕ) (d : Destination) → Comes ops before (request mode root q value)
+        → (answerAt before (request mode root q value) ≡ Stored d) ↔ Storing start (left before) mode root q value d
+    -- 4. "A take that isn't refused is answered 6, with 1 exactly when the mark is waiting, else with 0"
+    pub taken : (before : List Op) (file n : ℕ) → Comes ops before (take file n) → takeRefusal start (length bytes) file n ≡ 0
+        → (answerAt before (take file n) ≡ Taken (accountAfter before file n .mark)) × (accountAfter before file n .mark < 2)
+    -- and it is refused exactly when a check refuses it, by the check's number
+    pub refused : (before : List Op) (file n r : ℕ) → Comes ops before (take file n)
+        → (answerAt before (take file n) ≡ Refused r) ↔ ((takeRefusal start (length bytes) file n ≡ r) × (r ≡ 0 → ⊥))
+    -- 5. "After the list each pending bit is 1 exactly when its mark is waiting"; both are 0 or 1
+    pub marks : (file n : ℕ) → isFile start (length bytes) file ≡ true → n < 2048
+        → (pendingAfter ops file n ≡ accountAfter ops file n .mark) × (pendingAfter ops file n < 2)
+    -- 6. every store gives exactly one notice, which by `stored` is as the entry gives it
+    pub notices : (before : List Op) (o : Op) → Comes ops before o → (file n : ℕ) → eventOf file n (callAt before o) ≡ store
+        → noticesOf (numbersOf (answerAt before o)) ≡ noticeOf (numbersOf (answerAt before o)) ∷ []
+    -- no other call gives one
+    pub silent : (before : List Op) (o : Op) → Comes ops before o → ((file n : ℕ) → eventOf file n (callAt before o) ≡ store → ⊥)
+        → noticesOf (numbersOf (answerAt before o)) ≡ []
+    -- a store or a take changes no byte but the one with its bit
+    pub storeChanges : (before : List Op) (mode root : ℕ) (q : DeviceRequest) (value : ℕ) (d : Destination) → Comes ops before (request mode root q value)
+        → answerAt before (request mode root q value) ≡ Stored d
+        → OneByte start (left before) (afterAt before (request mode root q value)) (d .file) (identityOf q value)
+    pub takeChanges : (before : List Op) (file n w : ℕ) → Comes ops before (take file n) → answerAt before (take file n) ≡ Taken w
+        → OneByte start (left before) (afterAt before (take file n)) file n
+    -- every other call changes none
+    pub otherwise : (before : List Op) (o : Op) → Comes ops before o → ((d : Destination) → answerAt before o ≡ Stored d → ⊥)
+        → ((w : ℕ) → answerAt before o ≡ Taken w → ⊥) → afterAt before o ≡ left before
