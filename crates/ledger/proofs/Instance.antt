@@ -20,6 +20,7 @@ use Rattle.message.specs.Recognition.{recognised, packed, extract}
 use Rattle.message.specs.Table.{translateReserved, recordReserved, onNotice, onTranslate, onEntry, messageOf}
 use Rattle.interrupt_file.specs.Bit.{bitAt, raised, lowered}
 use Rattle.interrupt_file.specs.File.{isFile, pendingOf, afterStore, afterTake}
+use Rattle.iommu.specs.declared.Answer.the-variants.{Taken}
 use Rattle.iommu.specs.declared.Numbers.{Numbers}
 use Rattle.iommu.specs.Answers.{numbersOf, numbers}
 use Rattle.iommu.specs.Refusals.{badWindow, requestRefusal, takeRefusal}
@@ -28,8 +29,9 @@ use Rattle.iommu.specs.Request.{storableAs, finish, requestOf, afterRequest}
 use Rattle.iommu.specs.Files.{takeOf, afterTakeOf}
 use Rattle.ledger.specs.Calls.{Op, request, take, Call, bytesAfter, history}
 use Rattle.ledger.specs.Ledger.{Account, enteredAll, accountOf}
-use Rattle.ledger.specs.Closes.{Closes, Adds, accountAfter, pendingAfter}
+use Rattle.ledger.specs.Closes.{Closes, Adds, accountAfter, pendingAfter, answerAt}
 use Rattle.ledger.proofs.Closing.{closes}
+use Rattle.ledger.proofs.Corollaries.{nothing-lost}
 
 -- the eight bytes of a doubleword, lowest first
 eight : ℕ → List ℕ
@@ -57,20 +59,19 @@ write : ℕ → ℕ → Op
 write mode d =
     request mode 0x40000 (record { device = 0; process = Absent; supervisor = false; access = Write; address = 0x80004000; length = 4 }) d
 
-pub ops : List Op
+-- three requests: stored; stored and merged; discarded
+pub early : List Op
 unfolding write
-ops =
-    write 2 37  -- stored
-    ∷ write 2 37  -- stored, and merged
-    ∷ write 2 2048  -- discarded
-    ∷ take 0x40000200 37  -- taken
-    ∷ take 0x40000200 37  -- no longer pending
-    ∷ take 0x40000201 37  -- refused
-    ∷ write 5 37  -- refused
-    ∷ write 2 0  -- stored
-    ∷ take 0x40000000 0  -- taken: the bit is the context's V
-    ∷ write 2 37  -- so the directory faults
-    ∷ []
+early = write 2 37 ∷ write 2 37 ∷ write 2 2048 ∷ []
+
+-- after a take: one that finds nothing; two calls that are refused; a store; a take of the context's V, so that the directory then faults
+pub later : List Op
+unfolding write
+later = take 0x40000200 37 ∷ take 0x40000201 37 ∷ write 5 37 ∷ write 2 0 ∷ take 0x40000000 0 ∷ write 2 37 ∷ []
+
+pub ops : List Op
+unfolding early later
+ops = early ++ (take 0x40000200 37 ∷ later)
 
 abbrev answers : List Call → List Numbers
 answers [] = []
@@ -79,7 +80,7 @@ answers (c ∷ cs) = numbersOf (c .answer) ∷ answers cs
 abbrev account : ℕ → ℕ → ℕ → ℕ → Account
 account mark stores merged takes = record { mark = mark; stores = stores; merged = merged; takes = takes }
 
--- each call's answer, and the accounts of three identities
+-- each call's answer, the accounts of three identities, and one before the first take
 pub computed :
     (answers (history start bytes ops)
     ≡ numbers 2 0x40000200 0x28000000 1029 ∷ numbers 2 0x40000200 0x28000000 1029 ∷ numbers 3 0 0 0 ∷ numbers 6 1 0 0 ∷ numbers 6 0 0 0
@@ -87,8 +88,9 @@ pub computed :
     × (accountAfter start bytes ops 0x40000200 37 ≡ account 0 2 1 1)
     × (accountAfter start bytes ops 0x40000200 0 ≡ account 1 1 0 0)
     × (accountAfter start bytes ops 0x40000000 0 ≡ account 0 0 0 1)
-unfolding onesIn ones memory legalOf indexOf entryOf allows mappedBy onLoad levelOf levels walkOf secondStageOf firstStageOf pointerOf pointers tooWide deviceMisconfigured deviceContextAt deviceContextOf processMisconfigured processContextAt processContextOf processTable firstTableOf recognised packed extract translateReserved recordReserved onNotice onTranslate onEntry messageOf bitAt raised lowered isFile pendingOf afterStore afterTake badWindow requestRefusal takeRefusal untranslated isMessage guestOf stagesOf directoryOf translateOf storableAs finish requestOf afterRequest takeOf afterTakeOf history bytesAfter enteredAll accountOf start bytes ops
-computed = (refl, refl, refl, refl)
+    × (accountAfter start bytes early 0x40000200 37 ≡ account 1 2 1 0)
+unfolding onesIn ones memory legalOf indexOf entryOf allows mappedBy onLoad levelOf levels walkOf secondStageOf firstStageOf pointerOf pointers tooWide deviceMisconfigured deviceContextAt deviceContextOf processMisconfigured processContextAt processContextOf processTable firstTableOf recognised packed extract translateReserved recordReserved onNotice onTranslate onEntry messageOf bitAt raised lowered isFile pendingOf afterStore afterTake badWindow requestRefusal takeRefusal untranslated isMessage guestOf stagesOf directoryOf translateOf storableAs finish requestOf afterRequest takeOf afterTakeOf history bytesAfter enteredAll accountOf start bytes early later ops
+computed = (refl, refl, refl, refl, refl)
 
 -- the theorem of this list, with each kind of premise met
 pub instance : Closes start bytes ops
@@ -96,11 +98,16 @@ instance = closes start bytes ops
 
 pub balanced : pendingOf start bytes 0x40000200 37 + 2 ≡ 1 + 1 + pendingAfter start bytes ops 0x40000200 37
 unfolding isFile start bytes
-balanced =
-    let a = computed .1 in
-    let b = instance .balance 0x40000200 37 refl (omega arith) in
-    rw (a) at b
+balanced = rw (computed .1) at (instance .balance 0x40000200 37 refl (omega arith))
 
 pub added : Adds start bytes ops (0x40000000 ∷ 0x40000200 ∷ [])
 unfolding isFile start bytes
 added = instance .sums (0x40000000 ∷ 0x40000200 ∷ []) (refl, (refl, tt)) (refl, (refl, tt))
+
+pub told : answerAt start bytes early (take 0x40000200 37) ≡ Taken 1
+unfolding ops takeRefusal badWindow isFile start bytes
+told = rw (computed .4) at (instance .taken early 0x40000200 37 (later, refl) refl .0)
+
+pub kept : pendingAfter start bytes early 0x40000200 37 ≡ 1
+unfolding early isFile start bytes
+kept = nothing-lost start bytes early 0x40000200 37 refl (omega arith) tt (rw (computed .4) (omega arith))

@@ -9,4 +9,5 @@ pub mod Files
 pub mod Corollaries
 pub mod Whole
 pub mod Reported
+pub mod Reports
 pub mod Instance
