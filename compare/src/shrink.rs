@@ -1,5 +1,6 @@
 //! Makes a list smaller while something about it stays true.
 
+use yasmurekh_reference::coverage::run_call;
 use yasmurekh_reference::generate::{Call, List};
 use yasmurekh_reference::{Access, Request};
 
@@ -7,12 +8,14 @@ const PAGE: usize = 4_096;
 
 /// The smallest list found for which `holds` is true. It must be true of the list given.
 ///
-/// Every step that is kept makes the list smaller (fewer calls, fewer pages, fewer ones in the
-/// window, a smaller field), so this ends; it stops when no step is left that can be kept.
+/// Every step that is kept makes the list smaller: fewer calls, or as many and fewer pages, or as
+/// many of both and fewer ones in the window, or the same window and a smaller field. So this ends,
+/// when no step is left that can be kept.
 pub fn shrink(list: List, holds: impl FnMut(&List) -> bool) -> List {
     let mut shrinker = Shrinker { list, holds };
     loop {
         let mut smaller = shrinker.drop_calls();
+        smaller |= shrinker.start_later();
         smaller |= shrinker.drop_pages();
         smaller |= shrinker.clear_window();
         smaller |= shrinker.simplify_calls();
@@ -53,6 +56,18 @@ impl<H: FnMut(&List) -> bool> Shrinker<H> {
             run /= 2;
         }
         smaller
+    }
+
+    /// Drops first calls, with the window as the reference has it after them.
+    fn start_later(&mut self) -> bool {
+        let calls = self.list.calls.len();
+        (1..calls).rev().any(|first| {
+            self.keep(|list| {
+                for call in list.calls.drain(..first) {
+                    run_call(list.start, &mut list.window, &call, &mut |_| {});
+                }
+            })
+        })
     }
 
     /// Drops pages at the window's end, then at its start, many at once first.
@@ -117,14 +132,12 @@ impl<H: FnMut(&List) -> bool> Shrinker<H> {
     }
 }
 
-/// Smaller numbers to try: 0, then one with a bit less, from the highest on.
+/// Smaller numbers to try: 0, 1, then those with a bit less, from the highest on.
 fn simpler_numbers(number: u64) -> Vec<u64> {
     let bits = (0..64).rev().filter(|bit| number >> bit & 1 == 1);
-    let mut numbers: Vec<u64> = bits.map(|bit| number & !(1 << bit)).collect();
-    if number != 0 {
-        numbers.insert(0, 0);
-    }
-    numbers
+    let with_less = bits.map(|bit| number & !(1 << bit));
+    let small = [0, 1].into_iter().filter(|small| *small < number);
+    small.chain(with_less).collect()
 }
 
 /// Calls with one field made simpler.
