@@ -48,7 +48,7 @@ impl Found {
     /// The smallest case as a text that can be run again; the answers are the reference's.
     pub fn text(&self) -> String {
         format!(
-            "# list {} differs at {}\n# the smallest case found differs at {}\n{}",
+            "# list {} differs, {}\n# the smallest case found differs, {}\n{}",
             self.index,
             self.difference,
             self.smallest_difference,

@@ -2,20 +2,21 @@
 
 use yasmurekh_reference::coverage::run_call;
 use yasmurekh_reference::generate::{Call, List};
-use yasmurekh_reference::{Access, Request};
+use yasmurekh_reference::{Access, Answer, Request};
 
 const PAGE: usize = 4_096;
 
 /// The smallest list found for which `holds` is true. It must be true of the list given.
 ///
-/// Every step that is kept makes the list smaller: fewer calls, or as many and fewer pages, or as
-/// many of both and fewer ones in the window, or the same window and a smaller field. So this ends,
-/// when no step is left that can be kept.
+/// Every step that is kept makes the list smaller: fewer calls; or as many, and fewer requests among
+/// them; or as many of both, and fewer pages; then fewer ones in the window; then smaller fields. So
+/// this ends, when no step is left that can be kept.
 pub fn shrink(list: List, holds: impl FnMut(&List) -> bool) -> List {
     let mut shrinker = Shrinker { list, holds };
     loop {
         let mut smaller = shrinker.drop_calls();
         smaller |= shrinker.start_later();
+        smaller |= shrinker.stores_to_takes();
         smaller |= shrinker.drop_pages();
         smaller |= shrinker.clear_window();
         smaller |= shrinker.simplify_calls();
@@ -67,6 +68,23 @@ impl<H: FnMut(&List) -> bool> Shrinker<H> {
                     run_call(list.start, &mut list.window, &call, &mut |_| {});
                 }
             })
+        })
+    }
+
+    /// Puts a take of the same file in the place of a list's first call, a store, with the window
+    /// as the reference has it after that store: for what a report of the file shows.
+    fn stores_to_takes(&mut self) -> bool {
+        let Some(call @ Call::Request { .. }) = self.list.calls.first().copied() else {
+            return false;
+        };
+        let mut window = self.list.window.clone();
+        let answer = run_call(self.list.start, &mut window, &call, &mut |_| {});
+        let Answer::Stored { file, .. } = answer else {
+            return false;
+        };
+        self.keep(|list| {
+            list.window = window;
+            list.calls[0] = Call::Take { file, identity: 0 };
         })
     }
 
