@@ -1,38 +1,7 @@
 // The worked cases P5 to P10, P13 and P14 of document 01, run by the proved routines: mark, answer number, three values.
 use causes::Access;
-use directory::ProcessId;
 use iommu::Answer;
-use iommu::DeviceRequest;
-use iommu::Settings;
 use libc::STDOUT_FILENO;
-ghost use Prim.Native.Nat.{_≤_};
-
-// Puts a doubleword into the window, lowest byte first.
-fn put(window: &mut [u8; 12288], at: usize, v: u64)
-    requires { ⌜ at ≤ 12280 ⌝ }
-{
-    window[at] = (v % 256) as u8;
-    window[at + 1] = (v / 256 % 256) as u8;
-    window[at + 2] = (v / 65536 % 256) as u8;
-    window[at + 3] = (v / 16777216 % 256) as u8;
-    window[at + 4] = (v / 4294967296 % 256) as u8;
-    window[at + 5] = (v / 1099511627776 % 256) as u8;
-    window[at + 6] = (v / 281474976710656 % 256) as u8;
-    window[at + 7] = (v / 72057594037927936) as u8;
-}
-
-// Three pages: a directory whose first context is the message context, files, and a message table with an entry for file number 2.
-fn layout(first: u64, second: u64) -> [u8; 12288] {
-    let mut window = [0u8; 12288];
-    put(&mut window, 0, 1);
-    put(&mut window, 8, 0x8000000000040000);
-    put(&mut window, 32, 0x1000000000040002);
-    put(&mut window, 40, 3);
-    put(&mut window, 48, 0x80004);
-    put(&mut window, 8224, first);
-    put(&mut window, 8232, second);
-    window
-}
 
 fn value(v: u64) {
     io::write_all(STDOUT_FILENO, b" ");
@@ -51,20 +20,9 @@ fn show(mark: u64, answer: Answer) {
 }
 
 fn case(mark: u64, first: u64, second: u64, access: Access, address: u64, data: u32) {
-    let mut window = layout(first, second);
-    let settings = Settings {
-        start: 0x40000000,
-        mode: 2,
-        root: 0x40000,
-    };
-    let request = DeviceRequest {
-        device: 0,
-        process: ProcessId::Absent,
-        supervisor: false,
-        access: access,
-        address: address,
-        length: 4,
-    };
+    let mut window = layout::window(first, second);
+    let settings = layout::settings();
+    let request = layout::ask(access, address, 4);
     show(mark, iommu::request(settings, &mut window, request, data));
 }
 

@@ -1,2 +1,5 @@
 pub mod Calls
 pub mod Ledger
+pub mod Sums
+pub mod Closes
+pub mod Whole

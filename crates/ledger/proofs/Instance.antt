@@ -1,0 +1,113 @@
+-- The ledger of a small list of calls, computed: two stores of one identity merge, a take, and calls that change nothing. Assumes nothing.
+use Prim.Native.Nat.{ℕ, _+_, _-_, _/_, _%_, _^_}
+use mathlib.Core.Path.{_≡_, refl}
+use mathlib.Core.Bool.{false}
+use mathlib.Core.List.{List, [], _∷_, _++_}
+use native.Mathlib.Omega.{arith}
+use lib.Count.{onesIn, ones}
+use lib.ListN.{length, replicate}
+use Rattle.memory.specs.Window.{memory}
+use Rattle.causes.specs.declared.Access.the-variants.{Write}
+use Rattle.directory.specs.declared.ProcessId.the-variants.{Absent}
+use Rattle.paging.specs.Scheme.{legalOf, indexOf}
+use Rattle.paging.specs.Entry.{entryOf, allows, mappedBy}
+use Rattle.paging.specs.Levels.{onLoad, levelOf, levels, walkOf}
+use Rattle.paging.specs.Stages.{secondStageOf, firstStageOf}
+use Rattle.directory.specs.Pointers.{pointerOf, pointers, tooWide}
+use Rattle.directory.specs.Device.{deviceMisconfigured, deviceContextAt, deviceContextOf}
+use Rattle.directory.specs.Process.{processMisconfigured, processContextAt, processContextOf, processTable, firstTableOf}
+use Rattle.message.specs.Recognition.{recognised, packed, extract}
+use Rattle.message.specs.Table.{translateReserved, recordReserved, onNotice, onTranslate, onEntry, messageOf}
+use Rattle.interrupt_file.specs.Bit.{bitAt, raised, lowered}
+use Rattle.interrupt_file.specs.File.{isFile, pendingOf, afterStore, afterTake}
+use Rattle.iommu.specs.declared.Answer.the-variants.{Taken}
+use Rattle.iommu.specs.declared.Numbers.{Numbers}
+use Rattle.iommu.specs.Answers.{numbersOf, numbers}
+use Rattle.iommu.specs.Refusals.{badWindow, requestRefusal, takeRefusal}
+use Rattle.iommu.specs.Translate.{untranslated, isMessage, guestOf, stagesOf, directoryOf, translateOf}
+use Rattle.iommu.specs.Request.{storableAs, finish, requestOf, afterRequest}
+use Rattle.iommu.specs.Files.{takeOf, afterTakeOf}
+use Rattle.ledger.specs.Calls.{Op, request, take, Call, bytesAfter, history}
+use Rattle.ledger.specs.Ledger.{Account, enteredAll, accountOf}
+use Rattle.ledger.specs.Closes.{Closes, Adds, accountAfter, pendingAfter, answerAt}
+use Rattle.ledger.proofs.Closing.{closes}
+use Rattle.ledger.proofs.Corollaries.{nothing-lost}
+
+-- the eight bytes of a doubleword, lowest first
+eight : ℕ → List ℕ
+eight v =
+    v % 256 ∷ v / 2 ^ 8 % 256 ∷ v / 2 ^ 16 % 256 ∷ v / 2 ^ 24 % 256 ∷ v / 2 ^ 32 % 256 ∷ v / 2 ^ 40 % 256
+    ∷ v / 2 ^ 48 % 256 ∷ v / 2 ^ 56 % 256 ∷ []
+
+words : List ℕ → List ℕ
+unfolding eight
+words [] = []
+words (v ∷ vs) = eight v ++ words vs
+
+pub start : ℕ
+start = 0x40000000
+
+-- one page: the context of device 0, the message entry of file number 4 and, over both, the file 0x40000000; the entry names the file 0x40000200
+pub bytes : List ℕ
+unfolding words
+bytes =
+    words (0x1 ∷ 0x8000000000040000 ∷ 0 ∷ 0 ∷ 0x1000000000040000 ∷ 0x1f ∷ 0x80000 ∷ 0 ∷ 0x10000083 ∷ 0x100000000A000005 ∷ [])
+    ++ replicate (4096 - 80) 0
+
+-- a 4-byte write of device 0 under a directory mode
+write : ℕ → ℕ → Op
+write mode d =
+    request mode 0x40000 (record { device = 0; process = Absent; supervisor = false; access = Write; address = 0x80004000; length = 4 }) d
+
+-- three requests: stored; stored and merged; discarded
+pub early : List Op
+unfolding write
+early = write 2 37 ∷ write 2 37 ∷ write 2 2048 ∷ []
+
+-- after a take: one that finds nothing; two calls that are refused; a store; a take of the context's V, so that the directory then faults
+pub later : List Op
+unfolding write
+later = take 0x40000200 37 ∷ take 0x40000201 37 ∷ write 5 37 ∷ write 2 0 ∷ take 0x40000000 0 ∷ write 2 37 ∷ []
+
+pub ops : List Op
+unfolding early later
+ops = early ++ (take 0x40000200 37 ∷ later)
+
+abbrev answers : List Call → List Numbers
+answers [] = []
+answers (c ∷ cs) = numbersOf (c .answer) ∷ answers cs
+
+abbrev account : ℕ → ℕ → ℕ → ℕ → Account
+account mark stores merged takes = record { mark = mark; stores = stores; merged = merged; takes = takes }
+
+-- each call's answer, the accounts of three identities, and one before the first take
+pub computed :
+    (answers (history start bytes ops)
+    ≡ numbers 2 0x40000200 0x28000000 1029 ∷ numbers 2 0x40000200 0x28000000 1029 ∷ numbers 3 0 0 0 ∷ numbers 6 1 0 0 ∷ numbers 6 0 0 0
+    ∷ numbers 5 2008 0 0 ∷ numbers 5 2002 0 0 ∷ numbers 2 0x40000200 0x28000000 1029 ∷ numbers 6 1 0 0 ∷ numbers 4 258 0 0 ∷ [])
+    × (accountAfter start bytes ops 0x40000200 37 ≡ account 0 2 1 1)
+    × (accountAfter start bytes ops 0x40000200 0 ≡ account 1 1 0 0)
+    × (accountAfter start bytes ops 0x40000000 0 ≡ account 0 0 0 1)
+    × (accountAfter start bytes early 0x40000200 37 ≡ account 1 2 1 0)
+unfolding onesIn ones memory legalOf indexOf entryOf allows mappedBy onLoad levelOf levels walkOf secondStageOf firstStageOf pointerOf pointers tooWide deviceMisconfigured deviceContextAt deviceContextOf processMisconfigured processContextAt processContextOf processTable firstTableOf recognised packed extract translateReserved recordReserved onNotice onTranslate onEntry messageOf bitAt raised lowered isFile pendingOf afterStore afterTake badWindow requestRefusal takeRefusal untranslated isMessage guestOf stagesOf directoryOf translateOf storableAs finish requestOf afterRequest takeOf afterTakeOf history bytesAfter enteredAll accountOf start bytes early later ops
+computed = (refl, refl, refl, refl, refl)
+
+-- the theorem of this list, with each kind of premise met
+pub instance : Closes start bytes ops
+instance = closes start bytes ops
+
+pub balanced : pendingOf start bytes 0x40000200 37 + 2 ≡ 1 + 1 + pendingAfter start bytes ops 0x40000200 37
+unfolding isFile start bytes
+balanced = rw (computed .1) at (instance .balance 0x40000200 37 refl (omega arith))
+
+pub added : Adds start bytes ops (0x40000000 ∷ 0x40000200 ∷ [])
+unfolding isFile start bytes
+added = instance .sums (0x40000000 ∷ 0x40000200 ∷ []) (refl, (refl, tt)) (refl, (refl, tt))
+
+pub told : answerAt start bytes early (take 0x40000200 37) ≡ Taken 1
+unfolding ops takeRefusal badWindow isFile start bytes
+told = rw (computed .4) at (instance .taken early 0x40000200 37 (later, refl) refl .0)
+
+pub kept : pendingAfter start bytes early 0x40000200 37 ≡ 1
+unfolding early isFile start bytes
+kept = nothing-lost start bytes early 0x40000200 37 refl (omega arith) tt (rw (computed .4) (omega arith))

@@ -1,0 +1,13 @@
+pub mod Machine
+pub mod Answering
+pub mod Keeping
+pub mod SumLaws
+pub mod Counting
+pub mod Lists
+pub mod Closing
+pub mod Files
+pub mod Corollaries
+pub mod Whole
+pub mod Reported
+pub mod Reports
+pub mod Instance

@@ -1,0 +1,116 @@
+-- Reports of a file before and after a list of calls differ by the ledger's counts. Assumes nothing.
+use Prim.Native.Nat.{ℕ, zero, suc, _+_, _-_, _*_, _%_, _^_, _<_}
+use mathlib.Core.Path.{_≡_, refl, sym, ap, _∙_}
+use mathlib.Core.Bool.{Bool, true, false, not}
+use mathlib.Core.List.{List, [], _∷_}
+use native.Mathlib.Omega.{arith}
+use lib.Bits.{or-lt}
+use lib.ListN.{length, getD, set}
+use Rattle.memory.specs.Choice.{pick, unlessRefused}
+use Rattle.interrupt_file.specs.Bit.{raised, lowered}
+use Rattle.interrupt_file.specs.File.{isFile, placeOf, pendingOf, afterStore, afterTake}
+use Rattle.interrupt_file.specs.Report.{fileReport}
+use Rattle.interrupt_file.specs.declared.Report.{Report}
+use Rattle.interrupt_file.proofs.Bits.{or-is}
+use Rattle.interrupt_file.proofs.Files.{file-at}
+use Rattle.iommu.specs.declared.Answer.{Answer}
+use Rattle.iommu.specs.declared.Answer.the-variants.{Translated, Redirected, Stored, Discarded, Fault, Refused, Taken}
+use Rattle.iommu.specs.Refusals.{badWindow, takeRefusal, reportRefusal}
+use Rattle.iommu.specs.Request.{identityOf, storedBy, requestOf, afterRequest}
+use Rattle.iommu.specs.Files.{afterTakeOf, reportOf}
+use Rattle.iommu.proofs.Filing.{report-made}
+use Rattle.ledger.specs.Calls.{Op, request, take, settings, afterOf, bytesAfter, history}
+use Rattle.ledger.specs.Sums.{ofFile, total, storeTo, takeFrom, howMany}
+use Rattle.ledger.specs.Closes.{left, accountAfter, pendingAfter}
+use Rattle.ledger.proofs.Lists.{length-after}
+use Rattle.ledger.proofs.Corollaries.{change}
+use Rattle.ledger.proofs.Reported.{pending-counted}
+
+-- every element is a byte, as in a lent window
+abbrev pub Bytes : List ℕ → Type 0
+Bytes xs = (i : ℕ) → getD xs i 0 < 256
+
+raised-lt : (k v : ℕ) → k < 8 → v < 256 → raised k v < 256
+raised-lt k v l h = rw (← or-is k v l) (or-lt 8 v (1 * 2 ^ k % 256) h (omega arith))
+
+lowered-lt : (k v : ℕ) → v < 256 → lowered k v < 256
+unfolding lowered
+lowered-lt k v h = omega arith
+
+set-bytes : (xs : List ℕ) (i v : ℕ) → v < 256 → Bytes xs → Bytes (set xs i v)
+set-bytes [] i v l h j = h j
+set-bytes (x ∷ xs) zero v l h zero = l
+set-bytes (x ∷ xs) zero v l h (suc j) = h (suc j)
+set-bytes (x ∷ xs) (suc i) v l h zero = h 0
+set-bytes (x ∷ xs) (suc i) v l h (suc j) = set-bytes xs i v l (λ k. h (suc k)) j
+
+module _ (start : ℕ) where
+  store-bytes : (bytes : List ℕ) (file n : ℕ) → Bytes bytes → Bytes (afterStore start bytes file n)
+  unfolding afterStore
+  store-bytes bytes file n h = set-bytes bytes _ _ (raised-lt (n % 8) _ (omega arith) (h (placeOf file n - start))) h
+
+  take-bytes : (bytes : List ℕ) (file n : ℕ) → Bytes bytes → Bytes (afterTake start bytes file n)
+  unfolding afterTake
+  take-bytes bytes file n h = set-bytes bytes _ _ (lowered-lt (n % 8) _ (h (placeOf file n - start))) h
+
+  call-bytes : (bytes : List ℕ) (o : Op) → Bytes bytes → Bytes (afterOf start bytes o)
+  unfolding afterRequest afterTakeOf
+  call-bytes bytes (request mode root q value) h = go (requestOf (settings start mode root) bytes q value)
+    where
+      go : (a : Answer) → Bytes (storedBy start bytes q value a)
+      go (Stored d) = store-bytes bytes (d .file) (identityOf q value) h
+      go (Translated a) = h
+      go (Redirected a) = h
+      go Discarded = h
+      go (Fault f) = h
+      go (Refused r) = h
+      go (Taken w) = h
+  call-bytes bytes (take f i) h = go (takeRefusal start (length bytes) f i)
+    where
+      go : (r : ℕ) → Bytes (unlessRefused r (λ k. bytes) (afterTake start bytes f i))
+      go zero = take-bytes bytes f i h
+      go (suc r) = h
+
+  pub left-bytes : (bytes : List ℕ) (ops : List Op) → Bytes bytes → Bytes (bytesAfter start bytes ops)
+  unfolding bytesAfter
+  left-bytes bytes [] h = h
+  left-bytes bytes (o ∷ os) h = left-bytes (afterOf start bytes o) os (call-bytes bytes o h)
+
+report-passed : (start len file : ℕ) → reportRefusal start len file ≡ 0 → isFile start len file ≡ true
+unfolding reportRefusal
+report-passed start len file = go (badWindow start len) (isFile start len file) refl
+  where
+    go : (b f : Bool) → isFile start len file ≡ f → _≡_ {A = ℕ} (pick b 2001 (pick (not f) 2008 0)) 0 → isFile start len file ≡ true
+    go true f h z = absurd (omega arith)
+    go false true h z = h
+    go false false h z = absurd (omega arith)
+
+-- the count of a report that is not refused
+reported : (start : ℕ) (bytes : List ℕ) (file : ℕ) → Bytes bytes → reportRefusal start (length bytes) file ≡ 0
+    → reportOf start bytes file .count ≡ ofFile (pendingOf start bytes file)
+reported start bytes file h z =
+    let f = file-at (report-passed start (length bytes) file z) in
+    ap (λ (r : Report). r .count) (sym (report-made start bytes file 0 (sym z) (fileReport bytes (file - start)) refl refl))
+    ∙ sym (pending-counted bytes h start file (f .after))
+
+total-one : (file : ℕ) (g : ℕ → ℕ → ℕ) → total (file ∷ []) g ≡ ofFile (g file)
+unfolding total
+total-one file g = omega arith
+
+-- a file's count before + its stores ≡ its successful takes + its merged stores + its count after
+pub reports-close : (start : ℕ) (bytes : List ℕ) (ops : List Op) (file : ℕ) → Bytes bytes → reportRefusal start (length bytes) file ≡ 0
+    → reportOf start bytes file .count + howMany (storeTo (file ∷ [])) (history start bytes ops)
+    ≡ howMany (takeFrom (file ∷ [])) (history start bytes ops) + ofFile (λ n. accountAfter start bytes ops file n .merged)
+    + reportOf start (left start bytes ops) file .count
+reports-close start bytes ops file h z =
+    let after = bytesAfter start bytes ops in
+    let r : reportRefusal start (length after) file ≡ 0 = ap (λ (k : ℕ). reportRefusal start k file) (length-after start bytes ops) ∙ z in
+    omega (
+      arith,
+      reported start bytes file h z,
+      reported start after file (left-bytes start bytes ops h) r,
+      change start bytes ops (file ∷ []) (refl, tt) (report-passed start (length bytes) file z, tt),
+      total-one file (pendingOf start bytes),
+      total-one file (pendingAfter start bytes ops),
+      total-one file (λ f n. accountAfter start bytes ops f n .merged),
+    )
