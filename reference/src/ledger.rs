@@ -143,12 +143,16 @@ impl Ledger {
                 total[place] += sums[place];
             }
         }
-        let all = |bytes: &[u8]| -> u64 {
-            files(self.start, bytes.len())
-                .map(|file| ones(self.start, bytes, file))
-                .sum()
-        };
-        if all(&self.starting) + total[0] != total[1] + total[2] + all(ending) {
+        // A file whose bytes are as they were adds the same to both sides.
+        let (mut before, mut after) = (total[0], total[1] + total[2]);
+        for file in files(self.start, ending.len()) {
+            let bytes = |window| file_bytes(self.start, window, file);
+            if bytes(&self.starting) != bytes(ending) {
+                before += ones(self.start, &self.starting, file);
+                after += ones(self.start, ending, file);
+            }
+        }
+        if before != after {
             return Err("the sums over all files".to_string());
         }
         Ok(())

@@ -10,7 +10,8 @@
 //! end
 //! ```
 //!
-//! Numbers of calls are decimal; an answer is 01's four numbers, and the stage of a fault.
+//! Numbers of calls are decimal; an answer is 01's four numbers, and the stage of a fault. A line
+//! that begins with # is a remark.
 
 use crate::coverage::run_call;
 use crate::file;
@@ -42,7 +43,7 @@ pub fn write_list(index: u64, list: &List) -> String {
 }
 
 /// A call's text.
-fn write_call(call: &Call) -> String {
+pub fn write_call(call: &Call) -> String {
     match call {
         Call::Take { file, identity } => format!("take {file} {identity}"),
         Call::Request {
@@ -71,13 +72,53 @@ fn write_call(call: &Call) -> String {
 }
 
 /// An answer's text.
-fn write_answer(answer: Answer) -> String {
+pub fn write_answer(answer: Answer) -> String {
     let [number, a, b, c] = answer.numbers();
     let stage = match answer.stage() {
         Some(stage) => format!(" {}", stage.name()),
         None => String::new(),
     };
     format!("{number} {a} {b} {c}{stage}")
+}
+
+/// One list of a text, with the answers that stand beside its calls.
+#[derive(Clone, Debug, PartialEq, Eq)]
+pub struct Written {
+    pub index: u64,
+    pub list: List,
+    pub answers: Vec<String>,
+}
+
+/// Reads a text and hands over list after list; an error names a line that can't be read.
+pub fn read_lists(text: &str, mut each: impl FnMut(Written)) -> Result<(), String> {
+    let mut open: Option<Written> = None;
+    for line in text.lines().filter(|line| !line.starts_with('#')) {
+        let broken = || format!("can't read: {line}");
+        let (left, right) = line.split_once(" = ").unwrap_or((line, ""));
+        let words: Vec<&str> = left.split(' ').collect();
+        if words[0] == "list" {
+            open.take().map(&mut each);
+            open = Some(read_head(&words).ok_or_else(broken)?);
+            continue;
+        }
+        let written = open.as_mut().ok_or_else(broken)?;
+        match words[0] {
+            "word" | "byte" => {
+                read_bytes(&words, &mut written.list.window).ok_or_else(broken)?;
+            }
+            "request" | "take" => {
+                let call = read_call(&words).ok_or_else(broken)?;
+                written.list.calls.push(call);
+                written.answers.push(right.to_string());
+            }
+            "end" => {
+                open.take().map(&mut each);
+            }
+            _ => return Err(broken()),
+        }
+    }
+    open.take().map(&mut each);
+    Ok(())
 }
 
 /// What a text of lists gives: how many calls, and the lines whose answers differ.
@@ -91,40 +132,39 @@ pub struct Rerun {
 /// Runs a text of lists again and compares the answers; an error names a line that can't be read.
 pub fn rerun(text: &str) -> Result<Rerun, String> {
     let mut result = Rerun::default();
-    let (mut start, mut window) = (0, Vec::new());
-    for line in text.lines() {
-        let broken = || format!("can't read: {line}");
-        let (left, right) = line.split_once(" = ").unwrap_or((line, ""));
-        let words: Vec<&str> = left.split(' ').collect();
-        match words[0] {
-            "list" => {
-                (start, window) = read_head(&words).ok_or_else(broken)?;
-                result.lists += 1;
+    read_lists(text, |written| {
+        result.lists += 1;
+        let mut list = written.list;
+        for (call, expected) in list.calls.iter().zip(&written.answers) {
+            let answer = run_call(list.start, &mut list.window, call, &mut |_| {});
+            result.calls += 1;
+            if write_answer(answer) != *expected {
+                let line = format!("{} = {expected}", write_call(call));
+                result.different.push(line);
             }
-            "word" | "byte" => read_bytes(&words, &mut window).ok_or_else(broken)?,
-            "request" | "take" => {
-                let call = read_call(&words).ok_or_else(broken)?;
-                let answer = run_call(start, &mut window, &call, &mut |_| {});
-                result.calls += 1;
-                if write_answer(answer) != right {
-                    result.different.push(line.to_string());
-                }
-            }
-            "end" => {}
-            _ => return Err(broken()),
         }
-    }
+    })?;
     Ok(result)
 }
 
-/// The start and an empty window, of a list's first line.
-fn read_head(words: &[&str]) -> Option<(u64, Vec<u8>)> {
+/// A list's first line: its window is zero, and it has no calls yet.
+fn read_head(words: &[&str]) -> Option<Written> {
+    let index = words.get(1)?.parse().ok()?;
     let start = words.get(3)?.parse().ok()?;
     let length: usize = words.get(5)?.parse().ok()?;
     if length > 1 << 24 {
         return None;
     }
-    Some((start, vec![0; length]))
+    let list = List {
+        start,
+        window: vec![0; length],
+        calls: Vec::new(),
+    };
+    Some(Written {
+        index,
+        list,
+        answers: Vec::new(),
+    })
 }
 
 /// A doubleword or a byte put into the window.
@@ -172,8 +212,23 @@ fn read_call(words: &[&str]) -> Option<Call> {
 
 #[cfg(test)]
 mod tests {
-    use super::{rerun, write_list};
+    use super::{read_lists, rerun, write_list};
     use crate::generate::list;
+
+    #[test]
+    fn reading_inverts_writing() {
+        let mut text = "# a remark\n".to_string();
+        for index in 0..200 {
+            text += &write_list(index, &list(7, index));
+        }
+        let mut index = 0;
+        let read = read_lists(&text, |written| {
+            assert_eq!((written.index, written.list), (index, list(7, index)));
+            index += 1;
+        });
+        assert_eq!((read, index), (Ok(()), 200));
+        assert!(read_lists("take 1 2 = 5 2001 0 0", |_| {}).is_err());
+    }
 
     #[test]
     fn text_runs_again_with_the_same_answers() {

@@ -1,0 +1,14 @@
+//! The proved library compared with the reference program: call by call, byte by byte of the
+//! window, report by report, with the ledger of each list recomputed from the library's answers.
+
+#![forbid(unsafe_code)]
+
+pub mod comparison;
+pub mod run;
+pub mod shrink;
+pub mod side;
+
+pub use comparison::{Comparison, Difference};
+pub use run::{run, Found, Options, Outcome};
+pub use shrink::shrink;
+pub use side::{Library, Reference, Side};

@@ -1,0 +1,265 @@
+//! Sides that are wrong on purpose: each is found, made small, printed, and found again from the
+//! printed text.
+
+use yasmurekh_compare::{run, Comparison, Difference, Found, Library, Options, Reference, Side};
+use yasmurekh_reference::generate::{Call, List};
+use yasmurekh_reference::text::read_lists;
+use yasmurekh_reference::{Answer, Report, Stage};
+
+/// A side with something done to its answers, its windows and its reports.
+struct Mutant<S> {
+    side: S,
+    /// Gets the call, the window before it, the window after it, and the answer.
+    call: fn(&Call, &[u8], &mut [u8], Answer) -> Answer,
+    report: fn(Report) -> Report,
+}
+
+impl<S: Side> Side for Mutant<S> {
+    fn call(&mut self, start: u64, window: &mut [u8], call: &Call) -> Answer {
+        let before = window.to_vec();
+        let answer = self.side.call(start, window, call);
+        (self.call)(call, &before, window, answer)
+    }
+
+    fn report(&mut self, start: u64, window: &[u8], file: u64) -> Report {
+        (self.report)(self.side.report(start, window, file))
+    }
+}
+
+fn same_answer(_: &Call, _: &[u8], _: &mut [u8], answer: Answer) -> Answer {
+    answer
+}
+
+fn same_report(report: Report) -> Report {
+    report
+}
+
+const OPTIONS: Options = Options {
+    seed: 3,
+    from: 0,
+    count: 200_000,
+};
+
+/// Runs two sides until they differ, and sees that the printed text differs in the same way.
+fn find<L: Side, R: Side>(library: L, reference: R) -> Found {
+    let mut comparison = Comparison::new(library, reference);
+    let outcome = run(&mut comparison, &OPTIONS, &mut std::io::sink());
+    let found = outcome.found.expect("a difference");
+    println!("{}", found.text());
+
+    let mut lists: Vec<List> = Vec::new();
+    read_lists(&found.text(), |written| lists.push(written.list)).expect("readable");
+    assert_eq!(lists.len(), 1);
+    assert_eq!(lists[0], found.smallest);
+    let again = comparison.list(&lists[0]);
+    assert_eq!(again, Err(found.smallest_difference.clone()));
+    assert!(found.list.calls.len() >= found.smallest.calls.len());
+    found
+}
+
+/// A mutant library against the reference.
+fn find_mutant(call: fn(&Call, &[u8], &mut [u8], Answer) -> Answer) -> Found {
+    let mutant = Mutant {
+        side: Library,
+        call,
+        report: same_report,
+    };
+    find(mutant, Reference::default())
+}
+
+fn ones(list: &List) -> u32 {
+    list.window.iter().map(|byte| byte.count_ones()).sum()
+}
+
+#[test]
+fn no_difference_without_a_mutation() {
+    let mut comparison = Comparison::new(Library, Reference::default());
+    let options = Options {
+        count: 20_000,
+        ..OPTIONS
+    };
+    let outcome = run(&mut comparison, &options, &mut std::io::sink());
+    assert_eq!(outcome.found, None);
+    assert_eq!(outcome.calls, 20_000);
+    assert!(outcome.reports > 1_000);
+}
+
+#[test]
+fn another_cause() {
+    let found = find_mutant(|_, _, _, answer| match answer {
+        Answer::Fault { cause: 259, stage } => Answer::Fault { cause: 258, stage },
+        _ => answer,
+    });
+    let misconfigured = |cause| Answer::Fault {
+        cause,
+        stage: Stage::Directory,
+    };
+    let difference = Difference::Answer {
+        call: 0,
+        library: misconfigured(258),
+        reference: misconfigured(259),
+    };
+    assert_eq!(found.smallest_difference, difference);
+    // A valid bit and one reserved bit are all that it takes.
+    assert_eq!(found.smallest.calls.len(), 1);
+    assert_eq!(found.smallest.window.len(), 4_096);
+    assert_eq!(ones(&found.smallest), 2);
+}
+
+#[test]
+fn another_stage() {
+    let found = find_mutant(|_, _, _, answer| match answer {
+        Answer::Fault {
+            cause,
+            stage: Stage::Second,
+        } => Answer::Fault {
+            cause,
+            stage: Stage::First,
+        },
+        _ => answer,
+    });
+    assert_eq!(found.smallest.calls.len(), 1);
+    assert!(ones(&found.smallest) < 40);
+}
+
+#[test]
+fn a_write_without_a_store() {
+    let found = find_mutant(|_, _, after, answer| {
+        if let (Answer::Fault { cause: 13, .. }, Some(byte)) = (answer, after.last_mut()) {
+            *byte ^= 0x80;
+        }
+        answer
+    });
+    assert!(matches!(found.difference, Difference::Byte { .. }));
+    assert!(matches!(
+        found.smallest_difference,
+        Difference::Byte { call: 0, .. }
+    ));
+    assert_eq!(found.smallest.calls.len(), 1);
+}
+
+#[test]
+fn a_take_that_clears_nothing() {
+    let found = find_mutant(|call, before, after, answer| {
+        if matches!(call, Call::Take { .. }) {
+            after.copy_from_slice(before);
+        }
+        answer
+    });
+    // One take of one pending bit in one page.
+    assert!(matches!(found.smallest.calls[..], [Call::Take { .. }]));
+    assert_eq!(found.smallest.window.len(), 4_096);
+    assert_eq!(ones(&found.smallest), 1);
+}
+
+#[test]
+fn a_notice_held_back_where_the_bit_was_set() {
+    let found = find_mutant(|_, before, after, answer| match answer {
+        Answer::Stored { .. } if before == after => Answer::Discarded,
+        _ => answer,
+    });
+    assert!(matches!(
+        found.smallest_difference,
+        Difference::Answer {
+            library: Answer::Discarded,
+            reference: Answer::Stored { .. },
+            ..
+        }
+    ));
+    assert_eq!(found.smallest.calls.len(), 1);
+}
+
+#[test]
+fn a_notice_without_bit_10() {
+    let found = find_mutant(|_, _, _, answer| match answer {
+        Answer::Stored {
+            file,
+            notice_address,
+            notice_number,
+        } => Answer::Stored {
+            file,
+            notice_address,
+            notice_number: notice_number & 1_023,
+        },
+        _ => answer,
+    });
+    assert_eq!(found.smallest.calls.len(), 1);
+}
+
+#[test]
+fn a_made_up_count() {
+    let mutant = Mutant {
+        side: Library,
+        call: same_answer,
+        report: |mut report| {
+            report.count += u64::from(report.pairs[5].enable != 0);
+            report
+        },
+    };
+    let found = find(mutant, Reference::default());
+    assert!(matches!(
+        found.smallest_difference,
+        Difference::Report { .. }
+    ));
+    assert_eq!(found.smallest.calls.len(), 1);
+    assert_eq!(ones(&found.smallest), 1);
+}
+
+/// The same mutation on both sides, so that only the ledger can find it.
+fn find_in_ledger(call: fn(&Call, &[u8], &mut [u8], Answer) -> Answer) -> Found {
+    let library = Mutant {
+        side: Library,
+        call,
+        report: same_report,
+    };
+    let reference = Mutant {
+        side: Reference::default(),
+        call,
+        report: same_report,
+    };
+    find(library, reference)
+}
+
+#[test]
+fn every_take_answered_with_1() {
+    let found = find_in_ledger(|_, _, _, answer| match answer {
+        Answer::Taken(_) => Answer::Taken(true),
+        _ => answer,
+    });
+    assert!(matches!(
+        found.smallest_difference,
+        Difference::Ledger { call: 0, .. }
+    ));
+    assert_eq!(ones(&found.smallest), 0);
+}
+
+#[test]
+fn a_store_that_stores_nothing() {
+    let found = find_in_ledger(|_, before, after, answer| {
+        if matches!(answer, Answer::Stored { .. }) {
+            after.copy_from_slice(before);
+        }
+        answer
+    });
+    assert!(matches!(
+        found.smallest_difference,
+        Difference::Close { .. } | Difference::Ledger { .. }
+    ));
+}
+
+#[test]
+fn every_bit_set_at_the_first_store() {
+    let found = find_in_ledger(|_, before, after, answer| {
+        if matches!(answer, Answer::Stored { .. }) {
+            let changed = (0..before.len()).find(|place| before[*place] != after[*place]);
+            if let Some(place) = changed {
+                after[place] = 0xFF;
+            }
+        }
+        answer
+    });
+    assert!(matches!(
+        found.smallest_difference,
+        Difference::Close { .. } | Difference::Ledger { .. }
+    ));
+}

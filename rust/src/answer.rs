@@ -1,0 +1,361 @@
+//! What a call answers.
+
+use core::error::Error;
+use core::fmt;
+
+/// The answer to a device request.
+#[derive(Clone, Copy, Debug, PartialEq, Eq, Hash)]
+pub enum Answer {
+    /// The access goes to this physical address.
+    Translated(u64),
+    /// A message, to be written to this physical address, an interrupt file of a hart.
+    Redirected(u64),
+    /// A message, stored as pending in a memory-resident interrupt file of the window.
+    Stored {
+        /// The file's physical address.
+        file: u64,
+        /// The notice that the caller now has to send.
+        notice: Notice,
+    },
+    /// An access to a memory-resident interrupt file that stores nothing; it is complete.
+    Discarded,
+    /// The access faults.
+    Fault(Fault),
+    /// The request is refused.
+    Refused(Refusal),
+}
+
+impl Answer {
+    /// The five words of the face for C: kind, three values, stage.
+    pub(crate) fn from_words([kind, first, second, third, stage]: [u64; 5]) -> Answer {
+        match kind {
+            0 => Answer::Translated(first),
+            1 => Answer::Redirected(first),
+            2 => Answer::Stored {
+                file: first,
+                notice: Notice {
+                    address: second,
+                    number: third,
+                },
+            },
+            3 => Answer::Discarded,
+            4 => Answer::Fault(Fault {
+                cause: first,
+                stage: Stage::from_number(stage),
+            }),
+            5 => Answer::Refused(Refusal::from_number(first)),
+            _ => another_version("answer", kind),
+        }
+    }
+
+    /// The kind's number, 0 to 5 in the order of the variants.
+    pub const fn number(&self) -> u64 {
+        match self {
+            Answer::Translated(_) => 0,
+            Answer::Redirected(_) => 1,
+            Answer::Stored { .. } => 2,
+            Answer::Discarded => 3,
+            Answer::Fault(_) => 4,
+            Answer::Refused(_) => 5,
+        }
+    }
+}
+
+impl fmt::Display for Answer {
+    fn fmt(&self, f: &mut fmt::Formatter<'_>) -> fmt::Result {
+        match self {
+            Answer::Translated(address) => write!(f, "translated to {address:#x}"),
+            Answer::Redirected(address) => write!(f, "message redirected to {address:#x}"),
+            Answer::Stored { file, notice } => write!(f, "stored in file {file:#x}, {notice}"),
+            Answer::Discarded => f.write_str("discarded"),
+            Answer::Fault(fault) => fault.fmt(f),
+            Answer::Refused(refusal) => refusal.fmt(f),
+        }
+    }
+}
+
+/// A take's words: whether the interrupt was pending, or the refusal.
+pub(crate) fn taken([kind, first, ..]: [u64; 5]) -> Result<bool, Refusal> {
+    match kind {
+        5 => Err(Refusal::from_number(first)),
+        6 => Ok(first == 1),
+        _ => another_version("answer of a take", kind),
+    }
+}
+
+/// The library answers no number that this crate doesn't name.
+#[cold]
+fn another_version(what: &str, number: u64) -> ! {
+    panic!("the static library is of another version than this crate: {what} {number}")
+}
+
+/// The notice of a stored message: the caller writes `number`, as 32 bits, to `address`.
+///
+/// Every stored message has one, whether or not its interrupt was pending before and whatever the
+/// file's enable bits are.
+#[derive(Clone, Copy, Debug, PartialEq, Eq, Hash)]
+pub struct Notice {
+    /// The physical address of the notice's page.
+    pub address: u64,
+    /// The notice's number, at most 2,047.
+    pub number: u64,
+}
+
+impl fmt::Display for Notice {
+    fn fmt(&self, f: &mut fmt::Formatter<'_>) -> fmt::Result {
+        write!(f, "notice {} to {:#x}", self.number, self.address)
+    }
+}
+
+/// A fault: the cause by the standard's number, and the stage that found it.
+#[derive(Clone, Copy, Debug, PartialEq, Eq, Hash)]
+pub struct Fault {
+    /// The cause, as the IOMMU specification numbers it.
+    pub cause: u64,
+    /// The stage that found the fault.
+    pub stage: Stage,
+}
+
+impl Fault {
+    /// What the cause means, in a few words.
+    pub const fn description(&self) -> &'static str {
+        match self.cause {
+            1 => "instruction access fault",
+            5 => "read access fault",
+            7 => "write access fault",
+            12 => "instruction page fault",
+            13 => "read page fault",
+            15 => "write page fault",
+            20 => "instruction guest page fault",
+            21 => "read guest page fault",
+            23 => "write guest page fault",
+            256 => "all inbound transactions disallowed",
+            257 => "device directory entry load access fault",
+            258 => "device directory entry not valid",
+            259 => "device directory entry misconfigured",
+            260 => "transaction type disallowed",
+            261 => "message table entry load access fault",
+            262 => "message table entry not valid",
+            263 => "message table entry misconfigured",
+            265 => "process directory entry load access fault",
+            266 => "process directory entry not valid",
+            267 => "process directory entry misconfigured",
+            _ => "fault",
+        }
+    }
+}
+
+impl fmt::Display for Fault {
+    fn fmt(&self, f: &mut fmt::Formatter<'_>) -> fmt::Result {
+        let what = self.description();
+        write!(
+            f,
+            "{what} (cause {}), found by the {}",
+            self.cause, self.stage
+        )
+    }
+}
+
+impl Error for Fault {}
+
+/// The stage that found a fault.
+#[derive(Clone, Copy, Debug, PartialEq, Eq, PartialOrd, Ord, Hash)]
+pub enum Stage {
+    /// The device directory, and what is asked before any stage translates.
+    Directory,
+    /// The process directory.
+    ProcessDirectory,
+    /// The first stage.
+    First,
+    /// The second stage, also where it translates an address of another table.
+    Second,
+    /// The message table.
+    MessageTable,
+}
+
+impl Stage {
+    /// All stages, in the order of their numbers.
+    pub const ALL: [Stage; 5] = [
+        Stage::Directory,
+        Stage::ProcessDirectory,
+        Stage::First,
+        Stage::Second,
+        Stage::MessageTable,
+    ];
+
+    fn from_number(number: u64) -> Stage {
+        match number {
+            0 => Stage::Directory,
+            1 => Stage::ProcessDirectory,
+            2 => Stage::First,
+            3 => Stage::Second,
+            4 => Stage::MessageTable,
+            _ => another_version("stage", number),
+        }
+    }
+
+    /// The stage's number, 0 to 4 in the order of the variants.
+    pub const fn number(self) -> u64 {
+        self as u64
+    }
+}
+
+impl fmt::Display for Stage {
+    fn fmt(&self, f: &mut fmt::Formatter<'_>) -> fmt::Result {
+        f.write_str(match self {
+            Stage::Directory => "device directory",
+            Stage::ProcessDirectory => "process directory",
+            Stage::First => "first stage",
+            Stage::Second => "second stage",
+            Stage::MessageTable => "message table",
+        })
+    }
+}
+
+/// Why a call is refused. Nothing changed then.
+///
+/// The checks stand in the order of the variants, and the first that is broken answers.
+#[derive(Clone, Copy, Debug, PartialEq, Eq, PartialOrd, Ord, Hash)]
+#[non_exhaustive]
+pub enum Refusal {
+    /// 2001: the window's start or length is no multiple of 4,096, or the window ends above 2^56.
+    Window,
+    /// 2002: the directory mode is above 4, or the root page number has more than 44 bits.
+    Directory,
+    /// 2003: the device_id has more than 24 bits.
+    DeviceId,
+    /// 2004: the process_id has more than 20 bits.
+    ProcessId,
+    /// 2005: supervisor without a process_id.
+    Supervisor,
+    /// 2006: the length is 0, or the access leaves its 4 KiB page.
+    Length,
+    /// 2007: the message would be stored, and its file isn't in the window.
+    FileOutside,
+    /// 2008: take or report: the file's address is no multiple of 512, or it isn't in the window.
+    File,
+    /// 2009: take: the identity is above 2,047.
+    Identity,
+}
+
+impl Refusal {
+    /// All refusals, in the order of their numbers.
+    pub const ALL: [Refusal; 9] = [
+        Refusal::Window,
+        Refusal::Directory,
+        Refusal::DeviceId,
+        Refusal::ProcessId,
+        Refusal::Supervisor,
+        Refusal::Length,
+        Refusal::FileOutside,
+        Refusal::File,
+        Refusal::Identity,
+    ];
+
+    fn from_number(number: u64) -> Refusal {
+        match number {
+            2001 => Refusal::Window,
+            2002 => Refusal::Directory,
+            2003 => Refusal::DeviceId,
+            2004 => Refusal::ProcessId,
+            2005 => Refusal::Supervisor,
+            2006 => Refusal::Length,
+            2007 => Refusal::FileOutside,
+            2008 => Refusal::File,
+            2009 => Refusal::Identity,
+            _ => another_version("refusal", number),
+        }
+    }
+
+    /// The refusal's number, from 2001 on in the order of the variants.
+    pub const fn number(self) -> u64 {
+        2001 + self as u64
+    }
+}
+
+impl fmt::Display for Refusal {
+    fn fmt(&self, f: &mut fmt::Formatter<'_>) -> fmt::Result {
+        let why = match self {
+            Refusal::Window => "the window isn't whole pages below 2^56",
+            Refusal::Directory => "no such directory mode, or the root page number is too wide",
+            Refusal::DeviceId => "the device_id is too wide",
+            Refusal::ProcessId => "the process_id is too wide",
+            Refusal::Supervisor => "supervisor without a process_id",
+            Refusal::Length => "the access is empty or leaves its page",
+            Refusal::FileOutside => "the message's file isn't in the window",
+            Refusal::File => "no interrupt file of the window is at that address",
+            Refusal::Identity => "the identity is above 2,047",
+        };
+        write!(f, "refused ({}): {why}", self.number())
+    }
+}
+
+impl Error for Refusal {}
+
+/// 64 interrupts of a file: a pending and an enable bit for each.
+#[derive(Clone, Copy, Debug, Default, PartialEq, Eq, Hash)]
+pub struct Pair {
+    /// The pending bits.
+    pub pending: u64,
+    /// The enable bits.
+    pub enable: u64,
+}
+
+/// An interrupt file as it stands.
+#[derive(Clone, Copy, Debug, PartialEq, Eq, Hash)]
+pub struct Report {
+    /// How many of the 2,048 interrupts are pending, identity 0 included.
+    pub count: u64,
+    /// The pairs: identity n is bit n mod 64 of pair n / 64.
+    pub pairs: [Pair; 32],
+}
+
+impl Report {
+    /// The 66 words of the face for C: refusal, count, then the pairs.
+    pub(crate) fn from_words(words: &[u64; 66]) -> Result<Report, Refusal> {
+        if words[0] != 0 {
+            return Err(Refusal::from_number(words[0]));
+        }
+        let mut pairs = [Pair::default(); 32];
+        for (pair, words) in pairs.iter_mut().zip(words[2..].chunks_exact(2)) {
+            *pair = Pair {
+                pending: words[0],
+                enable: words[1],
+            };
+        }
+        Ok(Report {
+            count: words[1],
+            pairs,
+        })
+    }
+
+    /// Whether an interrupt is pending; false for an identity above 2,047.
+    pub fn is_pending(&self, identity: u64) -> bool {
+        self.bit(identity, |pair| pair.pending)
+    }
+
+    /// Whether an interrupt is enabled; false for an identity above 2,047.
+    pub fn is_enabled(&self, identity: u64) -> bool {
+        self.bit(identity, |pair| pair.enable)
+    }
+
+    /// The pending interrupts, lowest first.
+    ///
+    /// ```
+    /// let mut window = [0; 4096];
+    /// window[0] = 0b1000_0010;
+    /// window[16] = 1;
+    /// let report = yasmurekh::report(0, &window, 0)?;
+    /// assert!(report.pending().eq([1, 7, 64]));
+    /// # Ok::<(), yasmurekh::Refusal>(())
+    /// ```
+    pub fn pending(&self) -> impl Iterator<Item = u64> + '_ {
+        (0..2048).filter(|identity| self.is_pending(*identity))
+    }
+
+    fn bit(&self, identity: u64, bits: impl Fn(&Pair) -> u64) -> bool {
+        let pair = usize::try_from(identity / 64).ok();
+        pair.and_then(|place| self.pairs.get(place))
+            .is_some_and(|pair| bits(pair) >> (identity % 64) & 1 == 1)
+    }
+}

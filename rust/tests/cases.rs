@@ -1,0 +1,311 @@
+//! The worked cases P5 to P14, the order of refusals, takes and reports.
+
+use yasmurekh::{
+    report, request, take, Access, Answer, Fault, Mode, Notice, Pair, Privilege, Refusal, Request,
+    Settings, Stage,
+};
+
+const START: u64 = 0x4000_0000;
+const FILE: u64 = 0x4000_1200;
+const PLACE: usize = (FILE - START) as usize;
+
+const SETTINGS: Settings = Settings {
+    start: START,
+    mode: Mode::ONE_LEVEL,
+    root: START / 4096,
+};
+
+/// The message entries of P5, P6 and P13.
+const REDIRECT: [u64; 2] = [0x0A00_0407, 0];
+const STORE: [u64; 2] = [0x1000_0483, 0x1000_0000_0A00_0005];
+const RESERVED_MODE: [u64; 2] = [0x0A00_0405, 0];
+
+fn put(window: &mut [u8], offset: usize, word: u64) {
+    window[offset..offset + 8].copy_from_slice(&word.to_le_bytes());
+}
+
+/// Three pages: a directory whose first context is the message context, a page of files, and a
+/// message table with an entry for file number 2.
+fn layout(entry: [u64; 2]) -> Vec<u8> {
+    let mut window = vec![0; 3 * 4096];
+    put(&mut window, 0, 1);
+    put(&mut window, 8, 0x8000_0000_0004_0000);
+    put(&mut window, 32, 0x1000_0000_0004_0002);
+    put(&mut window, 40, 3);
+    put(&mut window, 48, 0x80004);
+    put(&mut window, 8192 + 32, entry[0]);
+    put(&mut window, 8192 + 40, entry[1]);
+    window
+}
+
+/// A request's answer, and the bytes that it changed: place, before, after.
+fn run(window: &mut [u8], asked: &Request) -> (Answer, Vec<(usize, u8, u8)>) {
+    let before = window.to_vec();
+    let answer = request(&SETTINGS, window, asked);
+    let changed = (0..before.len())
+        .filter(|place| before[*place] != window[*place])
+        .map(|place| (place, before[place], window[place]))
+        .collect();
+    (answer, changed)
+}
+
+/// The same over a fresh layout.
+fn case(entry: [u64; 2], asked: &Request) -> (Answer, Vec<(usize, u8, u8)>) {
+    run(&mut layout(entry), asked)
+}
+
+fn fault(cause: u64, stage: Stage) -> Answer {
+    Answer::Fault(Fault { cause, stage })
+}
+
+fn stored() -> Answer {
+    Answer::Stored {
+        file: FILE,
+        notice: Notice {
+            address: 0x2800_0000,
+            number: 1029,
+        },
+    }
+}
+
+#[test]
+fn p5_redirected() {
+    let (answer, changed) = case(REDIRECT, &Request::read(0, 0x8000_6000, 4));
+    assert_eq!(answer, Answer::Redirected(0x2800_1000));
+    assert_eq!(answer.number(), 1);
+    assert_eq!(changed, []);
+}
+
+#[test]
+fn p6_stored() {
+    let (answer, changed) = case(STORE, &Request::message(0, 0x8000_6000, 37));
+    assert_eq!(answer, stored());
+    assert_eq!(changed, [(PLACE + 4, 0, 32)]);
+}
+
+#[test]
+fn p7_big_endian() {
+    let (answer, changed) = case(STORE, &Request::message(0, 0x8000_6004, 620_756_992));
+    assert_eq!(answer, stored());
+    assert_eq!(changed, [(PLACE + 4, 0, 32)]);
+}
+
+#[test]
+fn p8_discarded() {
+    let (answer, changed) = case(STORE, &Request::message(0, 0x8000_6004, 37));
+    assert_eq!(answer, Answer::Discarded);
+    assert_eq!(changed, []);
+}
+
+#[test]
+fn p9_last_identity() {
+    let (answer, changed) = case(STORE, &Request::message(0, 0x8000_6000, 2047));
+    assert_eq!(answer, stored());
+    assert_eq!(changed, [(PLACE + 503, 0, 128)]);
+}
+
+#[test]
+fn p10_past_the_last_identity() {
+    let (answer, changed) = case(STORE, &Request::message(0, 0x8000_6000, 2048));
+    assert_eq!(answer, Answer::Discarded);
+    assert_eq!(changed, []);
+}
+
+#[test]
+fn p11_device_wider_than_two_levels() {
+    let settings = Settings {
+        mode: Mode::TWO_LEVEL,
+        ..SETTINGS
+    };
+    let asked = Request::read(0x01_2345, 0x1000, 4);
+    let answer = request(&settings, &mut layout(STORE), &asked);
+    assert_eq!(answer, fault(260, Stage::Directory));
+    let settings = Settings {
+        mode: Mode::THREE_LEVEL,
+        ..SETTINGS
+    };
+    // Three levels have a place for it: entry 2 of the root is word 16, and it isn't valid.
+    let answer = request(&settings, &mut layout(STORE), &asked);
+    assert_eq!(answer, fault(258, Stage::Directory));
+}
+
+#[test]
+fn p12_process_wider_than_pd17() {
+    let asked = Request::read(0, 0x1000, 4).with_process(0x2A5C3);
+    let mut window = vec![0; 3 * 4096];
+    put(&mut window, 0, 0b100001); // V, PDTV
+    put(&mut window, 24, 0x2000_0000_0004_0001); // PD17
+    let (answer, changed) = run(&mut window, &asked);
+    assert_eq!(answer, fault(260, Stage::Directory));
+    assert_eq!(changed, []);
+    // PD20 has a place for it: entry 1 of its root, here not valid, then pointing outside.
+    put(&mut window, 24, 0x3000_0000_0004_0001);
+    let (answer, _) = run(&mut window, &asked);
+    assert_eq!(answer, fault(266, Stage::ProcessDirectory));
+    put(&mut window, 4096 + 8, 1);
+    let (answer, _) = run(&mut window, &asked);
+    assert_eq!(answer, fault(265, Stage::ProcessDirectory));
+}
+
+#[test]
+fn p13_reserved_entry_mode() {
+    let (answer, changed) = case(RESERVED_MODE, &Request::read(0, 0x8000_6000, 4));
+    assert_eq!(answer, fault(263, Stage::MessageTable));
+    assert_eq!(changed, []);
+}
+
+#[test]
+fn p14_execute_at_a_message() {
+    let (answer, changed) = case(REDIRECT, &Request::execute(0, 0x8000_6000, 4));
+    assert_eq!(answer, fault(1, Stage::MessageTable));
+    assert_eq!(changed, []);
+}
+
+/// A request that breaks every rule, mended rule by rule: each refusal comes in its turn.
+#[test]
+fn refusals_in_order() {
+    let mut settings = Settings {
+        start: START + 1,
+        mode: Mode(5),
+        root: 1 << 44,
+    };
+    let mut asked = Request {
+        device_id: 1 << 24,
+        process_id: Some(1 << 20),
+        privilege: Privilege::Supervisor,
+        access: Access::Write,
+        address: 0x8000_6000,
+        length: 0,
+        data: 37,
+    };
+    let mut window = layout([0x2000_0003, STORE[1]]); // a file at 2^31, outside the window
+    let lent = window.clone();
+    let mut next = |settings: &Settings, asked: &Request| request(settings, &mut window, asked);
+
+    assert_eq!(next(&settings, &asked), Answer::Refused(Refusal::Window));
+    settings.start = START;
+    assert_eq!(next(&settings, &asked), Answer::Refused(Refusal::Directory));
+    settings.mode = Mode::ONE_LEVEL;
+    assert_eq!(next(&settings, &asked), Answer::Refused(Refusal::Directory));
+    settings.root = START / 4096;
+    assert_eq!(next(&settings, &asked), Answer::Refused(Refusal::DeviceId));
+    asked.device_id = 0;
+    assert_eq!(next(&settings, &asked), Answer::Refused(Refusal::ProcessId));
+    asked.process_id = None;
+    assert_eq!(
+        next(&settings, &asked),
+        Answer::Refused(Refusal::Supervisor)
+    );
+    asked.privilege = Privilege::User;
+    assert_eq!(next(&settings, &asked), Answer::Refused(Refusal::Length));
+    asked.length = 4097;
+    assert_eq!(next(&settings, &asked), Answer::Refused(Refusal::Length));
+    asked.length = 4;
+    assert_eq!(
+        next(&settings, &asked),
+        Answer::Refused(Refusal::FileOutside)
+    );
+    asked.data = 2048; // nothing to store: discarded before the file is looked at
+    assert_eq!(next(&settings, &asked), Answer::Discarded);
+    assert_eq!(window, lent);
+}
+
+#[test]
+fn takes() {
+    let mut window = layout(STORE);
+    let message = Request::message(0, 0x8000_6000, 37);
+    assert_eq!(take(START, &mut window, FILE, 37), Ok(false));
+    assert_eq!(request(&SETTINGS, &mut window, &message), stored());
+    assert_eq!(request(&SETTINGS, &mut window, &message), stored());
+    let after_stores = window.clone();
+    assert_eq!(take(START, &mut window, FILE, 36), Ok(false));
+    assert_eq!(window, after_stores);
+    assert_eq!(take(START, &mut window, FILE, 37), Ok(true));
+    assert_eq!(window, layout(STORE));
+    assert_eq!(take(START, &mut window, FILE, 37), Ok(false));
+    assert_eq!(window, layout(STORE));
+}
+
+#[test]
+fn take_refusals_in_order() {
+    let mut window = vec![0xFF; 4096];
+    let last = START + 4096 - 512;
+    assert_eq!(take(1, &mut window, 1, 2048), Err(Refusal::Window));
+    assert_eq!(take(START, &mut window, last + 1, 2048), Err(Refusal::File));
+    assert_eq!(
+        take(START, &mut window, last + 512, 2048),
+        Err(Refusal::File)
+    );
+    assert_eq!(take(START, &mut window, START - 512, 0), Err(Refusal::File));
+    assert_eq!(take(START, &mut window, last, 2048), Err(Refusal::Identity));
+    assert_eq!(
+        take(START, &mut window, last, u64::MAX),
+        Err(Refusal::Identity)
+    );
+    assert_eq!(take(START, &mut [], START, 0), Err(Refusal::File));
+    assert_eq!(window, vec![0xFF; 4096]);
+    assert_eq!(take(START, &mut window, last, 2047), Ok(true));
+    assert_eq!(window[4096 - 512 + 503], 0x7F);
+}
+
+#[test]
+fn reports() {
+    let mut window = layout(STORE);
+    put(&mut window, PLACE, 1 | 1 << 37);
+    put(&mut window, PLACE + 8, 1 << 37);
+    put(&mut window, PLACE + 31 * 16, 1 << 63);
+    let shown = report(START, &window, FILE).expect("a file of the window");
+    assert_eq!(shown.count, 3);
+    let first = Pair {
+        pending: 1 | 1 << 37,
+        enable: 1 << 37,
+    };
+    assert_eq!(shown.pairs[0], first);
+    assert_eq!(shown.pairs[1], Pair::default());
+    assert!(shown.pending().eq([0, 37, 2047]));
+    assert!(shown.is_enabled(37) && !shown.is_enabled(0));
+    assert!(!shown.is_pending(2048) && !shown.is_pending(u64::MAX));
+
+    assert_eq!(report(START + 1, &window, 1), Err(Refusal::Window));
+    assert_eq!(report(START, &window, FILE + 1), Err(Refusal::File));
+    assert_eq!(report(START, &window, START + 3 * 4096), Err(Refusal::File));
+    assert_eq!(report(START, &[], START), Err(Refusal::File));
+}
+
+#[test]
+fn an_empty_window_and_one_at_the_top() {
+    let read = Request::read(0, 0x1000, 4);
+    let violation = fault(257, Stage::Directory);
+    assert_eq!(request(&SETTINGS, &mut [], &read), violation);
+    let top = Settings {
+        start: 1 << 56,
+        ..SETTINGS
+    };
+    assert_eq!(request(&top, &mut [], &read), violation);
+    let refused = Answer::Refused(Refusal::Window);
+    assert_eq!(request(&top, &mut [0; 4096], &read), refused);
+}
+
+#[test]
+fn numbers_and_words() {
+    for (place, refusal) in Refusal::ALL.iter().enumerate() {
+        assert_eq!(refusal.number(), 2001 + place as u64);
+    }
+    for (place, stage) in Stage::ALL.iter().enumerate() {
+        assert_eq!(stage.number(), place as u64);
+    }
+    assert_eq!(
+        Refusal::File.to_string(),
+        "refused (2008): no interrupt file of the window is at that address"
+    );
+    assert_eq!(
+        fault(21, Stage::Second).to_string(),
+        "read guest page fault (cause 21), found by the second stage"
+    );
+    assert_eq!(
+        stored().to_string(),
+        "stored in file 0x40001200, notice 1029 to 0x28000000"
+    );
+    assert_eq!(Mode::from(2), Mode::ONE_LEVEL);
+    assert_eq!(Mode(9).to_string(), "mode 9");
+}
