@@ -13,7 +13,7 @@ ghost use mathlib.Core.Bool.{_&&_, not};
 ghost use lib.Dec.{eqb, leb};
 ghost use lib.ListN.{length};
 ghost use Prim.Native.Nat.{_+_, _-_, _%_, _<_, _≤_, _^_};
-ghost use Rattle.memory.specs.Bits.{bits, bit as bitOf, anySet};
+ghost use Rattle.memory.specs.Bits.{bits, anySet};
 ghost use Rattle.memory.specs.Choice.{any};
 ghost use Rattle.memory.specs.Window.{doubleword, memory};
 ghost use Rattle.memory.specs.Walk.{run};
@@ -148,14 +148,6 @@ fn nonzero(e: u64) -> bool
     e != 0
 }
 
-// Bit k of e is 1.
-fn bit(e: u64, k: u64) -> bool
-    requires { ⌜ k < 64 ⌝ }
-    ensures { λ r. ⌜ r ≡ bitOf e k ⌝ }
-{
-    (e >> k) % 2 == 1
-}
-
 // An entry that can't be read.
 fn load_fault(t: Tree) -> FaultInfo
     ensures { λ r. ⌜ r ≡ loadFault t ⌝ }
@@ -211,7 +203,7 @@ fn pointer(t: Tree, v: Load) -> Pointed
     let Load::Value(e) = v else {
         return Pointed::Fault(load_fault(t));
     };
-    if !bit(e, 0) {
+    if !memory::bit(e, 0) {
         return Pointed::Fault(invalid(t));
     }
     if any_set(e, 9, 1) | any_set(e, 63, 54) {
@@ -324,10 +316,10 @@ fn table_reserved(c: DeviceContext) -> bool
 fn first_wrong(c: DeviceContext) -> bool
     ensures { λ r. ⌜ r ≡ any ((pdtv c && not (leb (modeOf (c .fsc)) 3)) ∷ (not (pdtv c) && not (validMode (c .fsc))) ∷ (not (pdtv c) && dpe c) ∷ []) ⌝ }
 {
-    if bit(c.tc, 5) {
+    if memory::bit(c.tc, 5) {
         return 3 < mode(c.fsc);
     }
-    if bit(c.tc, 9) {
+    if memory::bit(c.tc, 9) {
         return true;
     }
     !valid_mode(c.fsc)
@@ -376,7 +368,7 @@ fn context_at(start: u64, window: &[u8], a: u64) -> DeviceFound
     let Load::Value(tc) = first else {
         return DeviceFound::Fault(load_fault(Tree::Device));
     };
-    if !bit(tc, 0) {
+    if !memory::bit(tc, 0) {
         return DeviceFound::Fault(invalid(Tree::Device));
     }
     let last = memory::load64(start, window, a + 56);
@@ -478,7 +470,7 @@ fn process_context_at(start: u64, window: &[u8], a: u64) -> ProcessFound
     let Load::Value(ta) = first else {
         return ProcessFound::Fault(load_fault(Tree::Process));
     };
-    if !bit(ta, 0) {
+    if !memory::bit(ta, 0) {
         return ProcessFound::Fault(invalid(Tree::Process));
     }
     let second = memory::load64(start, window, a + 8);
@@ -556,7 +548,7 @@ fn process_table(
     let ProcessFound::Context(k) = found else {
         return PageTableInfo::Fault(found.fault());
     };
-    if supervisor & !bit(k.ta, 1) {
+    if supervisor & !memory::bit(k.ta, 1) {
         return PageTableInfo::Fault(causes::disallowed());
     }
     PageTableInfo::Use(iosatp(k.fsc))
@@ -580,12 +572,12 @@ pub fn first_table(
 ) -> PageTableInfo
     ensures { λ r. ⌜ (r ≡ run (memory start (now (window .entry))) (firstTableOf c process supervisor x)) × Rooted r ⌝ }
 {
-    let pdtv = bit(c.tc, 5);
+    let pdtv = memory::bit(c.tc, 5);
     let ProcessId::Given(p) = process else {
         if !pdtv {
             return PageTableInfo::Use(iosatp(c.fsc));
         }
-        if !bit(c.tc, 9) {
+        if !memory::bit(c.tc, 9) {
             return PageTableInfo::Use(bare_table());
         }
         return process_table(c, supervisor, x, 0, start, window);

@@ -1,7 +1,8 @@
 // The lent window as memory.
 ghost use mathlib.Core.Path.{_≡_};
-ghost use Prim.Native.Nat.{_+_, _≤_};
+ghost use Prim.Native.Nat.{_+_, _≤_, _<_};
 ghost use lib.ListN.{length};
+ghost use Rattle.memory.specs.Bits.{bit as bitOf};
 ghost use Rattle.memory.specs.Window.{little, doubleword, memory};
 
 // A doubleword that was read, or an access violation.
@@ -57,4 +58,12 @@ pub fn load64(start: u64, window: &[u8], a: u64) -> Load
         return Load::Violation;
     }
     Load::Value(doubleword_at(window, at as usize))
+}
+
+// Bit k of a doubleword is 1.
+pub fn bit(e: u64, k: u64) -> bool
+    requires { ⌜ k < 64 ⌝ }
+    ensures { λ r. ⌜ r ≡ bitOf e k ⌝ }
+{
+    (e >> k) % 2 == 1
 }

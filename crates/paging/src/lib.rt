@@ -5,7 +5,6 @@ use causes::Stage;
 use memory::Load;
 ghost use mathlib.Core.Path.{_≡_};
 ghost use Prim.Native.Nat.{_%_, _<_, _^_};
-ghost use Rattle.memory.specs.Bits.{bit as bitOf};
 ghost use Rattle.memory.specs.Window.{memory};
 ghost use Rattle.memory.specs.Walk.{run};
 ghost use Rattle.causes.specs.Causes.{faultAt};
@@ -157,24 +156,16 @@ fn power(k: u64) -> u64
     1 << k
 }
 
-// Bit k of e.
-fn bit(e: u64, k: u64) -> bool
-    requires { ⌜ k < 64 ⌝ }
-    ensures { λ r. ⌜ r ≡ bitOf e k ⌝ }
-{
-    (e >> k) % 2 == 1
-}
-
 fn leaf_of(e: u64) -> Leaf
     ensures { λ r. ⌜ r ≡ leafOf e ⌝ }
 {
     Leaf {
-        r: bit(e, 1),
-        w: bit(e, 2),
-        x: bit(e, 3),
-        u: bit(e, 4),
-        a: bit(e, 6),
-        d: bit(e, 7),
+        r: memory::bit(e, 1),
+        w: memory::bit(e, 2),
+        x: memory::bit(e, 3),
+        u: memory::bit(e, 4),
+        a: memory::bit(e, 6),
+        d: memory::bit(e, 7),
         page: e / 1024 % 17592186044416,
     }
 }
@@ -208,7 +199,7 @@ fn kind(l: Leaf) -> Entry
 fn decode(e: u64) -> Entry
     ensures { λ r. ⌜ (r ≡ entryOf e) × Paged r ⌝ }
 {
-    if bit(e, 0) {
+    if memory::bit(e, 0) {
         if e / 18014398509481984 % 1024 == 0 {
             return kind(leaf_of(e));
         }
