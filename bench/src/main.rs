@@ -5,6 +5,7 @@
 
 mod call;
 mod check;
+mod clock;
 mod measure;
 mod plain;
 mod proved;

@@ -1,11 +1,11 @@
 //! Both programs over a row: compared call by call, then timed in turn.
 
 use crate::call::{Call, Numbers, Settings, PROCESS_GIVEN, SUPERVISOR};
+use crate::clock::thread_nanoseconds;
 use crate::plain;
 use crate::proved::{self, Raw};
 use crate::rows::{Kind, Row};
 use std::hint::black_box;
-use std::time::Instant;
 
 #[derive(Clone, Copy, Debug, PartialEq, Eq)]
 pub enum Side {
@@ -151,13 +151,14 @@ pub fn time(row: &Row, rounds: usize, nanoseconds: f64) -> Times {
     let mut windows = [row.world.bytes.clone(), row.world.bytes.clone()];
     let sides = [Side::Proved, Side::Plain];
     let mut once = |side: usize, times: u64| {
-        let begin = Instant::now();
+        let begin = thread_nanoseconds();
         let mut sum = 0u64;
         for _ in 0..times {
             sum ^= run(sides[side], row, &mut windows[side]);
         }
         black_box(sum);
-        begin.elapsed().as_nanos() as f64 / (times as f64 * row.calls.len() as f64)
+        let spent = thread_nanoseconds() - begin;
+        spent as f64 / (times as f64 * row.calls.len() as f64)
     };
     // Warm-up, and how often the row is run in a round.
     let warm = once(0, 2).max(once(1, 2));

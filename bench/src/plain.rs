@@ -194,31 +194,25 @@ impl<'a> Memory<'a> {
         reach: impl Fn(u64) -> Result<u64, E>,
     ) -> Result<u64, E> {
         let mut table = root;
-        let mut shift = 30;
-        let mut index = address >> 30 & root_mask;
-        loop {
-            let place = reach(table + index * 8)?;
+        for shift in [30, 21, 12] {
+            let width = if shift == 30 { root_mask } else { 0x1FF };
+            let place = reach(table + (address >> shift & width) * 8)?;
             let Some(entry) = self.load(place) else {
                 return Err(Broken::Load.into());
             };
             // Bits 63:54 are 0 wherever the page is used.
             let page = entry << 2 & !0xFFF;
             if entry & (HIGH | V | R | W | X | U | A | D) == V {
-                if shift == 12 {
-                    return Err(Broken::Entry.into());
-                }
                 table = page;
-                shift -= 9;
-                index = address >> shift & 0x1FF;
                 continue;
             }
             let offset = (1 << shift) - 1;
-            let leaf = entry & mask == need && entry & (R | W) != W && page & offset == 0;
-            if leaf {
+            if entry & mask == need && entry & (R | W) != W && page & offset == 0 {
                 return Ok(page | address & offset);
             }
-            return Err(Broken::Entry.into());
+            break;
         }
+        Err(Broken::Entry.into())
     }
 
     /// A guest address, by the second stage.
@@ -235,7 +229,8 @@ impl<'a> Memory<'a> {
 /// The second stage: the address of its root, none where it is Bare.
 type Second = Option<u64>;
 
-/// One request.
+/// One request. Never inlined: requests come one at a time, as calls do to the archive.
+#[inline(never)]
 pub fn request(start: u64, window: &mut [u8], mode: u64, root: u64, request: &Request) -> Answer {
     if let Some(number) = refusal(start, window.len() as u64, mode, root, request) {
         return Answer::Refused(number);
@@ -252,6 +247,7 @@ pub fn request(start: u64, window: &mut [u8], mode: u64, root: u64, request: &Re
 }
 
 /// Takes an interrupt of a file.
+#[inline(never)]
 pub fn take(start: u64, window: &mut [u8], file: u64, identity: u64) -> Answer {
     let length = window.len() as u64;
     if bad_window(start, length) {
