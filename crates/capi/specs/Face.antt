@@ -1,15 +1,17 @@
 -- The face for C: numbers for what the routines take and answer (D25). Nothing of a request's meaning stands here.
-use Prim.Native.Nat.{ℕ, _+_, _*_, _/_, _%_}
+use Prim.Native.Nat.{ℕ, zero, suc, _+_, _*_, _%_}
 use mathlib.Core.Bool.{Bool, true, false}
 use mathlib.Core.List.{List, [], _∷_}
 use lib.Dec.{eqb, ltb, leb}
-use lib.ListN.{length, set}
+use lib.ListN.{length, set, getD}
 use Rattle.memory.specs.Choice.{pick}
 use Rattle.causes.specs.Causes.{stageNumber}
 use Rattle.causes.specs.declared.Access.{Access}
 use Rattle.causes.specs.declared.Access.the-variants.{Read, Write, Execute}
 use Rattle.directory.specs.declared.ProcessId.{ProcessId}
 use Rattle.directory.specs.declared.ProcessId.the-variants.{Absent, Given}
+use Rattle.interrupt_file.specs.declared.Pair.{Pair}
+use Rattle.interrupt_file.specs.declared.Report.{Report}
 use Rattle.iommu.specs.declared.Settings.{Settings}
 use Rattle.iommu.specs.declared.DeviceRequest.{DeviceRequest}
 use Rattle.iommu.specs.declared.Answer.{Answer}
@@ -45,6 +47,19 @@ stageOf (Taken w) = 0
 abbrev pub withAnswer : List ℕ → Answer → List ℕ
 withAnswer out a =
     set (set (set (set (set out 0 (numbersOf a .kind)) 1 (numbersOf a .first)) 2 (numbersOf a .second)) 3 (numbersOf a .third)) 4 (stageOf a)
+
+-- the words from the third on: the pending and the enable doubleword of each of the first k pairs
+abbrev pub noPair : Pair
+noPair = record { pending = 0; enable = 0 }
+
+unfoldable pub withPairs : List ℕ → List Pair → ℕ → List ℕ
+withPairs out pairs zero = out
+withPairs out pairs (suc k) =
+    set (set (withPairs out pairs k) (2 + 2 * k) (getD pairs k noPair .pending)) (3 + 2 * k) (getD pairs k noPair .enable)
+
+-- a report in 66 words: refusal, count, pairs
+abbrev pub withReport : List ℕ → Report → List ℕ
+withReport out r = withPairs (set (set out 0 (r .refusal)) 1 (r .count)) (r .pairs) 32
 
 -- a buffer that is too short is left as it is, and so is the window; the status is then 1, else 0
 unfoldable pub status : ℕ → List ℕ → ℕ

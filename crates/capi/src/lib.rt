@@ -2,13 +2,14 @@
 use causes::Access;
 use directory::ProcessId;
 use interrupt_file::Pair;
+use interrupt_file::Report;
 use iommu::Answer;
 use iommu::DeviceRequest;
 use iommu::Settings;
 ghost use mathlib.Core.Path.{_≡_};
 ghost use Prim.Native.Nat.{_≤_};
 ghost use lib.ListN.{length as lengthOf};
-ghost use Rattle.capi.specs.Face.{stageOf, withAnswer, chosenOf, processOf, supervisorOf, requestFace, afterFace, status, fitting};
+ghost use Rattle.capi.specs.Face.{stageOf, withAnswer, withPairs, withReport, chosenOf, processOf, supervisorOf, requestFace, afterFace, status, fitting};
 ghost use Rattle.iommu.specs.Files.{takeOf, afterTakeOf, reportOf};
 
 // An access that a number names.
@@ -172,5 +173,44 @@ pub extern "C" fn yasmurekh_take(
     }
     let a = iommu::take(start, window, file, identity);
     put_answer(out, a);
+    0
+}
+
+// Puts the pairs of a report into the words of a buffer from the third on.
+fn put_pairs(out: &mut [u64], pairs: [Pair; 32])
+    requires { ⌜ 66 ≤ lengthOf (now out) ⌝ }
+    ensures { λ _. ⌜ now (out .exit) ≡ withPairs (now (out .entry)) pairs 32 ⌝ }
+{
+    let mut k: usize = 0;
+    while k < 32 {
+        let p = pairs[k];
+        out[2 + 2 * k] = p.pending;
+        out[3 + 2 * k] = p.enable;
+        k += 1;
+    }
+}
+
+// Puts a report into the first 66 words of a buffer.
+fn put_report(out: &mut [u64], r: Report)
+    requires { ⌜ 66 ≤ lengthOf (now out) ⌝ }
+    ensures { λ _. ⌜ now (out .exit) ≡ withReport (now (out .entry)) r ⌝ }
+{
+    out[0] = r.refusal;
+    out[1] = r.count;
+    let pairs = r.pairs;
+    put_pairs(out, pairs);
+}
+
+// A report. Status 0: `out` holds the refusal, the count, and 32 pairs of doublewords, pending then enable; status 1: `out` has fewer than 66 words, and nothing changed.
+#[no_mangle]
+pub extern "C" fn yasmurekh_report(start: u64, window: &[u8], file: u64, out: &mut [u64]) -> u64
+    ensures told { λ r. ⌜ r ≡ status 66 (now (out .entry)) ⌝ }
+    ensures answer { λ _. ⌜ now (out .exit) ≡ fitting 66 (now (out .entry)) (now (out .entry)) (withReport (now (out .entry)) (reportOf start (now (window .entry)) file)) ⌝ }
+{
+    if out.len() < 66 {
+        return 1;
+    }
+    let r = iommu::report(start, window, file);
+    put_report(out, r);
     0
 }

@@ -442,8 +442,8 @@ pub fn request(s: Settings, window: &mut [u8], q: DeviceRequest, value: u32) -> 
     ensures answer { λ r. ⌜ r ≡ requestOf s (now (window .entry)) q value ⌝ }
     ensures bytes { λ _. ⌜ now (window .exit) ≡ afterRequest s (now (window .entry)) q value ⌝ }
 {
-    let refusal = request_refusal(s, window.len() as u64, q);
-    if refusal == 0 {
+    let number = request_refusal(s, window.len() as u64, q);
+    if number == 0 {
         let outcome = translate(s, q, window);
         match outcome {
             Outcome::Translated(a) => {
@@ -460,5 +460,5 @@ pub fn request(s: Settings, window: &mut [u8], q: DeviceRequest, value: u32) -> 
             }
         }
     }
-    Answer::Refused(refusal)
+    Answer::Refused(number)
 }
