@@ -2,8 +2,9 @@
  * Yasmurekh: a RISC-V IOMMU in software, with memory-resident interrupt files.
  *
  * All tables and interrupt files lie in one window of memory that the caller
- * lends. No routine keeps state, allocates, blocks or calls another library;
- * calls on different windows may run at the same time.
+ * lends. No routine keeps state, allocates or blocks; calls on different windows
+ * may run at the same time. The report may ask the linker for memset, which
+ * freestanding C compilers ask for too; nothing else is called.
  *
  * Every routine is total: it answers any numbers and any bytes in the window,
  * and reads and writes nothing but the buffers that it is lent. What the caller

@@ -158,6 +158,21 @@ static void take(const char *what, uint64_t file, uint64_t identity)
     show(what, out);
 }
 
+/* Prints what is pending in a file. */
+static void report(const char *what, uint64_t file)
+{
+    uint64_t out[YASMUREKH_REPORT_WORDS];
+    unsigned n;
+
+    yasmurekh_report(START, window, sizeof window, file, out, YASMUREKH_REPORT_WORDS);
+    printf("%s: refusal %" PRIu64 ", pending %" PRIu64, what, out[YASMUREKH_REPORT_REFUSAL],
+           out[YASMUREKH_REPORT_COUNT]);
+    for (n = 0; n < YASMUREKH_IDENTITIES; n++)
+        if (out[YASMUREKH_REPORT_PENDING(n / 64)] >> n % 64 & 1)
+            printf(", identity %u", n);
+    printf("\n");
+}
+
 /* What holds where a buffer is too short, or the window is empty. */
 static void edges(void)
 {
@@ -181,8 +196,12 @@ int main(void)
     request("read of the buffer", DEVICE, YASMUREKH_READ, 0x1234, 8, 0);
     request("write of 37 to file 2", DEVICE, YASMUREKH_WRITE, 0x2000, 4, 37);
     printf("byte 4 of the file: %d\n", window[FILES + 0x200 + 4 - START]);
+    request("write of 2047 to file 2, big-endian", DEVICE, YASMUREKH_WRITE, 0x2004, 4, 0xFF070000);
+    report("report of the file", FILES + 0x200);
     take("take of 37", FILES + 0x200, 37);
     take("take of 37 again", FILES + 0x200, 37);
+    report("report of the file", FILES + 0x200);
+    report("report of no file", FILES + 0x201);
 
     memcpy(before, window, sizeof window);
     request("read across the page's end", DEVICE, YASMUREKH_READ, 0x1FFC, 8, 0);
