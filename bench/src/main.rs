@@ -16,6 +16,7 @@ use measure::{Side, Times};
 use rows::Row;
 use std::env;
 use std::process::ExitCode;
+use std::slice;
 
 /// How much is measured.
 struct Effort {
@@ -60,39 +61,52 @@ fn measure_all(effort: &Effort) -> Result<(), String> {
     println!(
         "Answers and windows compared over {calls} generated calls: proved = plain = reference.\n"
     );
-    let title =
-        "| Row | proved, ns | plain, ns | ratio | least to greatest |\n|---|---|---|---|---|";
-    println!("{title}");
-    table(rows::main_rows(), effort)?;
+    println!("| Row | proved, ns | plain, ns | ratio | least to greatest |");
+    println!("|---|---|---|---|---|");
+    for row in rows::main_rows() {
+        measure::compare(&row)?;
+        for times in measure::time(slice::from_ref(&row), effort.rounds, effort.nanoseconds) {
+            println!("| {} | {} |", row.name, columns(&times));
+        }
+    }
     println!(
-        "\nAgainst the window's size, the same tables (both stages, 4 KiB / 4 KiB, one device):\n"
+        "\nThe same tables in windows of several sizes (both stages, 4 KiB / 4 KiB, one device):\n"
     );
-    println!("{}", title.replace("Row", "Window"));
-    table(rows::window_rows(), effort)?;
-    println!("\nAgainst the levels of the device directory (both stages, 4 KiB / 4 KiB):\n");
-    println!("{}", title.replace("Row", "Levels"));
-    table(rows::depth_rows(), effort)?;
+    together(rows::window_rows(), effort)?;
+    println!("\nDirectories of one, two and three levels (both stages, 4 KiB / 4 KiB):\n");
+    together(rows::depth_rows(), effort)?;
     println!(
         "\nRatio: proved rate / plain rate, median of {} rounds; above 1 the proved library is faster.",
         effort.rounds
     );
+    println!(
+        "Growth: the proved library's cost over its cost in the first row, in the same round."
+    );
     Ok(())
 }
 
-fn table(rows: Vec<Row>, effort: &Effort) -> Result<(), String> {
+/// Proved, plain, ratio and its spread.
+fn columns(times: &Times) -> String {
+    let [middle, least, greatest] = times.ratio;
+    let (proved, plain) = (times.proved, times.plain);
+    format!("{proved:.1} | {plain:.1} | {middle:.2} | {least:.2} to {greatest:.2}")
+}
+
+/// Rows that are measured against the first of them.
+fn together(rows: Vec<Row>, effort: &Effort) -> Result<(), String> {
+    println!(
+        "| Row | proved, ns | plain, ns | ratio | least to greatest | growth | least to greatest |"
+    );
+    println!("|---|---|---|---|---|---|---|");
     for row in &rows {
         measure::compare(row)?;
     }
-    for row in &rows {
-        let Times {
-            proved,
-            plain,
-            ratio: [middle, least, greatest],
-        } = measure::time(row, effort.rounds, effort.nanoseconds);
-        println!(
-            "| {} | {proved:.1} | {plain:.1} | {middle:.2} | {least:.2} to {greatest:.2} |",
-            row.name
-        );
+    let all = measure::time(&rows, effort.rounds, effort.nanoseconds);
+    for (row, times) in rows.iter().zip(&all) {
+        let [middle, least, greatest] = times.growth;
+        let columns = columns(times);
+        let name = &row.name;
+        println!("| {name} | {columns} | {middle:.2} | {least:.2} to {greatest:.2} |");
     }
     Ok(())
 }
@@ -104,7 +118,9 @@ fn alone(name: &str, side: &str, times: &str) -> Result<(), String> {
         _ => return Err(format!("no side {side}")),
     };
     let times = times.parse().map_err(|_| format!("no number: {times}"))?;
-    let rows = rows::main_rows();
+    let mut rows = rows::main_rows();
+    rows.append(&mut rows::window_rows());
+    rows.append(&mut rows::depth_rows());
     let row = rows
         .iter()
         .find(|row| row.name.starts_with(name))

@@ -138,58 +138,88 @@ pub fn compare(row: &Row) -> Result<(), String> {
     Ok(())
 }
 
-/// Nanoseconds a call, and the ratio of the rates in each round.
+/// Nanoseconds a call, medians; and what is compared within one round: median, least, greatest.
 pub struct Times {
     pub proved: f64,
     pub plain: f64,
-    /// Median, least and greatest.
+    /// Proved rate over plain rate.
     pub ratio: [f64; 3],
+    /// The proved library's cost over its cost in the first row.
+    pub growth: [f64; 3],
 }
 
-/// Times both sides in turn, the one first that was second before.
-pub fn time(row: &Row, rounds: usize, nanoseconds: f64) -> Times {
-    let mut windows = [row.world.bytes.clone(), row.world.bytes.clone()];
-    let sides = [Side::Proved, Side::Plain];
-    let mut once = |side: usize, times: u64| {
+/// A row under measurement: a window for each side, and how often a round runs its calls.
+struct Bench<'a> {
+    row: &'a Row,
+    windows: [Vec<u8>; 2],
+    times: u64,
+}
+
+impl Bench<'_> {
+    /// Nanoseconds a call on one side.
+    fn once(&mut self, side: Side) -> f64 {
+        let window = &mut self.windows[side as usize];
         let begin = thread_nanoseconds();
-        let mut sum = 0u64;
-        for _ in 0..times {
-            sum ^= run(sides[side], row, &mut windows[side]);
+        let mut sum = 0;
+        for _ in 0..self.times {
+            sum ^= run(side, self.row, window);
         }
         black_box(sum);
         let spent = thread_nanoseconds() - begin;
-        spent as f64 / (times as f64 * row.calls.len() as f64)
-    };
-    // Warm-up, and how often the row is run in a round.
-    let warm = once(0, 2).max(once(1, 2));
-    let times = (nanoseconds / (warm * row.calls.len() as f64)).ceil() as u64;
-    once(0, times);
-    once(1, times);
-    let mut proved = Vec::new();
-    let mut plain = Vec::new();
-    for round in 0..rounds {
-        let (a, b) = if round % 2 == 0 {
-            let a = once(0, times);
-            (a, once(1, times))
-        } else {
-            let b = once(1, times);
-            (once(0, times), b)
-        };
-        proved.push(a);
-        plain.push(b);
+        spent as f64 / (self.times as f64 * self.row.calls.len() as f64)
     }
-    let ratios: Vec<f64> = proved.iter().zip(&plain).map(|(a, b)| b / a).collect();
-    let [_, least, greatest] = spread(&ratios);
-    Times {
-        proved: spread(&proved)[0],
-        plain: spread(&plain)[0],
-        ratio: [spread(&ratios)[0], least, greatest],
+
+    /// Proved and plain, the one first that was second in the round before.
+    fn both(&mut self, round: usize) -> [f64; 2] {
+        if round.is_multiple_of(2) {
+            let proved = self.once(Side::Proved);
+            return [proved, self.once(Side::Plain)];
+        }
+        let plain = self.once(Side::Plain);
+        [self.once(Side::Proved), plain]
     }
 }
 
+/// Times rows together: each round runs every row on both sides, so that the machine's own drift
+/// falls on all of them alike.
+pub fn time(rows: &[Row], rounds: usize, nanoseconds: f64) -> Vec<Times> {
+    let mut benches: Vec<Bench> = rows.iter().map(|row| warm(row, nanoseconds)).collect();
+    let mut seen: Vec<Vec<[f64; 2]>> = vec![Vec::new(); rows.len()];
+    for round in 0..rounds {
+        for (bench, seen) in benches.iter_mut().zip(&mut seen) {
+            seen.push(bench.both(round));
+        }
+    }
+    let first = seen[0].clone();
+    let over_first = |times: &[[f64; 2]]| -> Vec<f64> {
+        times.iter().zip(&first).map(|(a, b)| a[0] / b[0]).collect()
+    };
+    seen.iter()
+        .map(|times| Times {
+            proved: spread(times.iter().map(|[proved, _]| *proved).collect())[0],
+            plain: spread(times.iter().map(|[_, plain]| *plain).collect())[0],
+            ratio: spread(times.iter().map(|[proved, plain]| plain / proved).collect()),
+            growth: spread(over_first(times)),
+        })
+        .collect()
+}
+
+/// Runs a row on both sides, and finds how often a round is to run it.
+fn warm(row: &Row, nanoseconds: f64) -> Bench<'_> {
+    let mut bench = Bench {
+        row,
+        windows: [row.world.bytes.clone(), row.world.bytes.clone()],
+        times: 2,
+    };
+    let [proved, plain] = bench.both(0);
+    let once = proved.max(plain) * row.calls.len() as f64;
+    bench.times = (nanoseconds / once).ceil() as u64;
+    bench.both(1);
+    bench
+}
+
 /// Median, least and greatest.
-fn spread(values: &[f64]) -> [f64; 3] {
-    let mut sorted = values.to_vec();
+fn spread(mut sorted: Vec<f64>) -> [f64; 3] {
     sorted.sort_by(f64::total_cmp);
     let last = sorted.len() - 1;
     [sorted[last / 2], sorted[0], sorted[last]]

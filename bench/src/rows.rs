@@ -302,8 +302,8 @@ pub fn window_rows() -> Vec<Row> {
             ..Plan::default()
         };
         let name = match window >> 20 {
-            0 => format!("{} KiB", window >> 10),
-            mebibytes => format!("{mebibytes} MiB"),
+            0 => format!("window of {} KiB", window >> 10),
+            mebibytes => format!("window of {mebibytes} MiB"),
         };
         row(&name, plan, &[0])
     });
@@ -317,7 +317,7 @@ pub fn depth_rows() -> Vec<Row> {
             directory,
             ..Plan::default()
         };
-        row(&format!("{directory}"), plan, &[0])
+        row(&format!("directory levels: {directory}"), plan, &[0])
     });
     made.into()
 }
