@@ -254,7 +254,7 @@ pub fn take(start: u64, window: &mut [u8], file: u64, identity: u64) -> Answer {
         return Answer::Refused(2001);
     }
     let offset = file.wrapping_sub(start);
-    if file % 512 != 0 || offset >= length {
+    if !file.is_multiple_of(512) || offset >= length {
         return Answer::Refused(2008);
     }
     if identity > 2_047 {
@@ -277,7 +277,7 @@ fn byte_of(file: u64, identity: u64) -> usize {
 
 #[inline]
 fn bad_window(start: u64, length: u64) -> bool {
-    (start | length) % 4_096 != 0 || start > 1 << 56 || length > (1 << 56) - start
+    !(start | length).is_multiple_of(4_096) || start > 1 << 56 || length > (1 << 56) - start
 }
 
 #[inline]

@@ -234,7 +234,7 @@ impl World {
     }
 
     fn add_space(&mut self, level: u32) -> Space {
-        while self.next % 16_384 != 0 {
+        while !self.next.is_multiple_of(16_384) {
             self.page();
         }
         let root = self.page();
