@@ -1,0 +1,51 @@
+//! One call of a row, small enough that a million of them stream through the caches.
+
+use crate::plain::Access;
+
+/// Kind, three values, stage.
+pub type Numbers = [u64; 5];
+
+/// The window's start and the device directory.
+#[derive(Clone, Copy, Debug, Default)]
+pub struct Settings {
+    pub start: u64,
+    pub mode: u64,
+    pub root: u64,
+}
+
+pub const PROCESS_GIVEN: u8 = 1;
+pub const SUPERVISOR: u8 = 2;
+
+/// A request; or a take, which uses the address as its file and the value as its identity.
+#[derive(Clone, Copy, Debug)]
+pub struct Call {
+    pub address: u64,
+    pub device: u32,
+    pub process: u32,
+    pub value: u32,
+    pub length: u16,
+    pub access: Access,
+    pub flags: u8,
+}
+
+impl Call {
+    pub fn read(device: u32, address: u64) -> Call {
+        Call {
+            address,
+            device,
+            process: 0,
+            value: 0,
+            length: 4,
+            access: Access::Read,
+            flags: 0,
+        }
+    }
+
+    pub fn write(device: u32, address: u64, value: u32) -> Call {
+        Call {
+            value,
+            access: Access::Write,
+            ..Call::read(device, address)
+        }
+    }
+}

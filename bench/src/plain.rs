@@ -1,0 +1,601 @@
+//! The same job as the proved library, in plain safe Rust written for speed.
+//!
+//! The window is looked at as doublewords, so that a load is one compare and one 64-bit load; an
+//! entry's bits are tested together under one mask; causes are computed only where a fault is met.
+
+/// The access of a request.
+#[derive(Clone, Copy, Debug, PartialEq, Eq)]
+#[repr(u8)]
+pub enum Access {
+    Read = 0,
+    Write = 1,
+    Execute = 2,
+}
+
+/// The stage that found a fault.
+#[derive(Clone, Copy, Debug, PartialEq, Eq)]
+#[repr(u8)]
+pub enum Stage {
+    Directory = 0,
+    ProcessDirectory = 1,
+    First = 2,
+    Second = 3,
+    MessageTable = 4,
+}
+
+#[derive(Clone, Copy, Debug)]
+pub struct Request {
+    pub device: u64,
+    pub process: Option<u64>,
+    pub supervisor: bool,
+    pub access: Access,
+    pub address: u64,
+    pub length: u64,
+    pub value: u32,
+}
+
+#[derive(Clone, Copy, Debug, PartialEq, Eq)]
+pub enum Answer {
+    Translated(u64),
+    Redirected(u64),
+    Stored { file: u64, notice: u64, number: u64 },
+    Discarded,
+    Fault { cause: u64, stage: Stage },
+    Refused(u64),
+    Taken(bool),
+}
+
+impl Answer {
+    /// Kind, three values, stage.
+    #[inline]
+    pub fn numbers(self) -> [u64; 5] {
+        match self {
+            Answer::Translated(address) => [0, address, 0, 0, 0],
+            Answer::Redirected(address) => [1, address, 0, 0, 0],
+            Answer::Stored {
+                file,
+                notice,
+                number,
+            } => [2, file, notice, number, 0],
+            Answer::Discarded => [3, 0, 0, 0, 0],
+            Answer::Fault { cause, stage } => [4, cause, 0, 0, stage as u64],
+            Answer::Refused(number) => [5, number, 0, 0, 0],
+            Answer::Taken(pending) => [6, u64::from(pending), 0, 0, 0],
+        }
+    }
+}
+
+/// A fault in one word, so that a step's result goes in two registers: cause, stage above it.
+type Fault = u64;
+
+const fn fault(cause: u64, stage: Stage) -> Fault {
+    cause | (stage as u64) << 32
+}
+
+const STAGES: [Stage; 5] = [
+    Stage::Directory,
+    Stage::ProcessDirectory,
+    Stage::First,
+    Stage::Second,
+    Stage::MessageTable,
+];
+
+const DDT_LOAD: Fault = fault(257, Stage::Directory);
+const DDT_INVALID: Fault = fault(258, Stage::Directory);
+const DDT_MISCONFIGURED: Fault = fault(259, Stage::Directory);
+const DISALLOWED: Fault = fault(260, Stage::Directory);
+const PDT_LOAD: Fault = fault(265, Stage::ProcessDirectory);
+const PDT_INVALID: Fault = fault(266, Stage::ProcessDirectory);
+const PDT_MISCONFIGURED: Fault = fault(267, Stage::ProcessDirectory);
+const MSI_LOAD: Fault = fault(261, Stage::MessageTable);
+const MSI_INVALID: Fault = fault(262, Stage::MessageTable);
+const MSI_MISCONFIGURED: Fault = fault(263, Stage::MessageTable);
+
+#[inline]
+fn access_fault(access: Access, stage: Stage) -> Fault {
+    let cause = match access {
+        Access::Read => 5,
+        Access::Write => 7,
+        Access::Execute => 1,
+    };
+    fault(cause, stage)
+}
+
+#[inline]
+fn page_fault(access: Access) -> Fault {
+    let cause = match access {
+        Access::Read => 13,
+        Access::Write => 15,
+        Access::Execute => 12,
+    };
+    fault(cause, Stage::First)
+}
+
+#[inline]
+fn guest_page_fault(access: Access) -> Fault {
+    let cause = match access {
+        Access::Read => 21,
+        Access::Write => 23,
+        Access::Execute => 20,
+    };
+    fault(cause, Stage::Second)
+}
+
+const PAGE_NUMBER: u64 = (1 << 44) - 1;
+
+// Bits of a page-table entry.
+const V: u64 = 1;
+const R: u64 = 1 << 1;
+const W: u64 = 1 << 2;
+const X: u64 = 1 << 3;
+const U: u64 = 1 << 4;
+const A: u64 = 1 << 6;
+const D: u64 = 1 << 7;
+const HIGH: u64 = 0x3FF << 54;
+
+/// What a leaf must have for an access; U is the stage's own.
+#[inline]
+fn needs(access: Access) -> u64 {
+    match access {
+        Access::Read => V | R | A,
+        Access::Write => V | R | W | A | D,
+        Access::Execute => V | X | A,
+    }
+}
+
+/// How a walk fails; the caller knows the cause.
+enum Broken {
+    Load,
+    Entry,
+}
+
+/// The window as doublewords.
+#[derive(Clone, Copy)]
+struct Memory<'a> {
+    start: u64,
+    words: &'a [[u8; 8]],
+}
+
+impl<'a> Memory<'a> {
+    #[inline]
+    fn new(start: u64, window: &'a [u8]) -> Memory<'a> {
+        Memory {
+            start,
+            words: window.as_chunks().0,
+        }
+    }
+
+    /// The doubleword at an address; an address below the start wraps to one beyond the end.
+    #[inline]
+    fn load(self, address: u64) -> Option<u64> {
+        let place = address.wrapping_sub(self.start) / 8;
+        let word = self.words.get(place as usize)?;
+        Some(u64::from_le_bytes(*word))
+    }
+
+    /// So many doublewords in a row.
+    #[inline]
+    fn load_all<const N: usize>(self, address: u64) -> Option<[u64; N]> {
+        let place = address.wrapping_sub(self.start) / 8;
+        let words: &[[u8; 8]; N] = self.words.get(place as usize..)?.first_chunk()?;
+        Some(words.map(u64::from_le_bytes))
+    }
+
+    /// One walk, three levels; `root_mask` is the width of the root's index, `need` what a leaf
+    /// has under `mask`, and `reach` finds an entry's own place.
+    #[inline(always)]
+    fn walk<E: From<Broken>>(
+        self,
+        root: u64,
+        root_mask: u64,
+        address: u64,
+        mask: u64,
+        need: u64,
+        reach: impl Fn(u64) -> Result<u64, E>,
+    ) -> Result<u64, E> {
+        let mut table = root;
+        for shift in [30, 21, 12] {
+            let width = if shift == 30 { root_mask } else { 0x1FF };
+            let place = reach(table + (address >> shift & width) * 8)?;
+            let Some(entry) = self.load(place) else {
+                return Err(Broken::Load.into());
+            };
+            // Bits 63:54 are 0 wherever the page is used.
+            let page = entry << 2 & !0xFFF;
+            if entry & (HIGH | V | R | W | X | U | A | D) == V {
+                table = page;
+                continue;
+            }
+            let offset = (1 << shift) - 1;
+            if entry & mask == need && entry & (R | W) != W && page & offset == 0 {
+                return Ok(page | address & offset);
+            }
+            break;
+        }
+        Err(Broken::Entry.into())
+    }
+
+    /// A guest address, by the second stage.
+    #[inline]
+    fn second_stage(self, root: u64, address: u64, need: u64) -> Result<u64, Broken> {
+        if address >> 41 != 0 {
+            return Err(Broken::Entry);
+        }
+        let need = need | U;
+        self.walk(root, 0x7FF, address, HIGH | need, need, Ok)
+    }
+}
+
+/// The second stage: the address of its root, none where it is Bare.
+type Second = Option<u64>;
+
+/// One request. Never inlined: requests come one at a time, as calls do to the archive.
+#[inline(never)]
+pub fn request(start: u64, window: &mut [u8], mode: u64, root: u64, request: &Request) -> Answer {
+    if let Some(number) = refusal(start, window.len() as u64, mode, root, request) {
+        return Answer::Refused(number);
+    }
+    match translate(Memory::new(start, window), mode, root, request) {
+        Ok(Found::Translated(address)) => Answer::Translated(address),
+        Ok(Found::Redirected(address)) => Answer::Redirected(address),
+        Ok(Found::Record(first, second)) => record(start, window, request, first, second),
+        Err(fault) => Answer::Fault {
+            cause: fault & 0xFFFF_FFFF,
+            stage: STAGES[(fault >> 32) as usize % 5],
+        },
+    }
+}
+
+/// Takes an interrupt of a file.
+#[inline(never)]
+pub fn take(start: u64, window: &mut [u8], file: u64, identity: u64) -> Answer {
+    let length = window.len() as u64;
+    if bad_window(start, length) {
+        return Answer::Refused(2001);
+    }
+    let offset = file.wrapping_sub(start);
+    if !file.is_multiple_of(512) || offset >= length {
+        return Answer::Refused(2008);
+    }
+    if identity > 2_047 {
+        return Answer::Refused(2009);
+    }
+    let Some(byte) = window.get_mut(byte_of(offset, identity)) else {
+        return Answer::Refused(2008);
+    };
+    let bit = 1 << (identity % 8);
+    let pending = *byte & bit != 0;
+    *byte &= !bit;
+    Answer::Taken(pending)
+}
+
+/// The index of the byte that holds an identity's pending bit.
+#[inline]
+fn byte_of(file: u64, identity: u64) -> usize {
+    (file + identity / 64 * 16 + identity % 64 / 8) as usize
+}
+
+#[inline]
+fn bad_window(start: u64, length: u64) -> bool {
+    !(start | length).is_multiple_of(4_096) || start > 1 << 56 || length > (1 << 56) - start
+}
+
+#[inline]
+fn refusal(start: u64, length: u64, mode: u64, root: u64, request: &Request) -> Option<u64> {
+    if bad_window(start, length) {
+        return Some(2001);
+    }
+    if mode > 4 || root >> 44 != 0 {
+        return Some(2002);
+    }
+    if request.device >> 24 != 0 {
+        return Some(2003);
+    }
+    match request.process {
+        Some(process) if process >> 20 != 0 => return Some(2004),
+        None if request.supervisor => return Some(2005),
+        _ => {}
+    }
+    if request.length == 0 || request.length > 4_096 - request.address % 4_096 {
+        return Some(2006);
+    }
+    None
+}
+
+/// Where a request leads.
+enum Found {
+    Translated(u64),
+    Redirected(u64),
+    Record(u64, u64),
+}
+
+#[inline]
+fn translate(memory: Memory, mode: u64, root: u64, request: &Request) -> Result<Found, Fault> {
+    if mode <= 1 {
+        if mode == 0 {
+            return Err(fault(256, Stage::Directory));
+        }
+        return untranslated(request);
+    }
+    let [tc, iohgatp, _, fsc, msiptp, mask, pattern, _] =
+        device_context(memory, mode - 1, root << 12, request.device)?;
+    let second = (iohgatp >> 60 != 0).then_some((iohgatp & PAGE_NUMBER) << 12);
+    let first = if tc & PDTV == 0 {
+        if request.process.is_some() {
+            return Err(DISALLOWED);
+        }
+        fsc
+    } else {
+        process_first_stage(memory, tc, fsc, second, request)?
+    };
+    if first >> 60 == 0 && second.is_none() {
+        return untranslated(request);
+    }
+    let address = if first >> 60 == 0 {
+        request.address
+    } else {
+        first_stage(memory, first, second, request)?
+    };
+    let Some(second) = second else {
+        return Ok(Found::Translated(address));
+    };
+    if msiptp >> 60 != 0 && (address >> 12 ^ pattern) & !mask == 0 {
+        return message(memory, msiptp, mask, address, request.access);
+    }
+    match memory.second_stage(second, address, needs(request.access)) {
+        Ok(address) => Ok(Found::Translated(address)),
+        Err(Broken::Load) => Err(access_fault(request.access, Stage::Second)),
+        Err(Broken::Entry) => Err(guest_page_fault(request.access)),
+    }
+}
+
+/// An address that no stage translates.
+#[inline]
+fn untranslated(request: &Request) -> Result<Found, Fault> {
+    if request.address >> 56 != 0 {
+        return Err(access_fault(request.access, Stage::Directory));
+    }
+    Ok(Found::Translated(request.address))
+}
+
+const PDTV: u64 = 1 << 5;
+const DPE: u64 = 1 << 9;
+/// The bits of tc that may be set: V, DTF, PDTV, DPE.
+const TC: u64 = 1 | 1 << 4 | PDTV | DPE;
+/// Reserved in fsc and msiptp.
+const MIDDLE: u64 = 0xFFFF << 44;
+/// PSCID in a device's ta.
+const PSCID: u64 = 0xF_FFFF << 12;
+
+/// The page that a directory's non-leaf entry names.
+#[inline]
+fn non_leaf(entry: u64, invalid: Fault, misconfigured: Fault) -> Result<u64, Fault> {
+    if entry & (HIGH | 0x3FF) != V {
+        return Err(if entry & V == 0 {
+            invalid
+        } else {
+            misconfigured
+        });
+    }
+    Ok((entry ^ V) << 2)
+}
+
+#[inline]
+fn device_context(memory: Memory, levels: u64, root: u64, device: u64) -> Result<[u64; 8], Fault> {
+    let mut table = root;
+    match levels {
+        1 if device >> 6 != 0 => return Err(DISALLOWED),
+        2 if device >> 15 != 0 => return Err(DISALLOWED),
+        _ => {}
+    }
+    if levels == 3 {
+        let entry = memory.load(table + (device >> 15 & 0x1FF) * 8);
+        table = non_leaf(entry.ok_or(DDT_LOAD)?, DDT_INVALID, DDT_MISCONFIGURED)?;
+    }
+    if levels >= 2 {
+        let entry = memory.load(table + (device >> 6 & 0x1FF) * 8);
+        table = non_leaf(entry.ok_or(DDT_LOAD)?, DDT_INVALID, DDT_MISCONFIGURED)?;
+    }
+    let context: [u64; 8] = memory
+        .load_all(table + (device & 63) * 64)
+        .ok_or(DDT_LOAD)?;
+    if context[0] & V == 0 {
+        return Err(DDT_INVALID);
+    }
+    if misconfigured(&context) {
+        return Err(DDT_MISCONFIGURED);
+    }
+    Ok(context)
+}
+
+#[inline]
+fn misconfigured(context: &[u64; 8]) -> bool {
+    let [tc, iohgatp, ta, fsc, msiptp, mask, pattern, reserved] = *context;
+    let set = tc & !TC | ta & !PSCID | (fsc | msiptp) & MIDDLE | (mask | pattern) >> 29 | reserved;
+    let first_mode = fsc >> 60;
+    let first_wrong = if tc & PDTV != 0 {
+        first_mode > 3
+    } else {
+        tc & DPE != 0 || first_mode & !8 != 0
+    };
+    let second_wrong = if iohgatp >> 60 == 0 {
+        msiptp >> 60 != 0
+    } else {
+        iohgatp >> 60 != 8 || iohgatp & 3 != 0 || msiptp >> 60 > 1
+    };
+    set != 0 || first_wrong || second_wrong
+}
+
+/// The iosatp of a request under PDTV = 1; 0 where the first stage is Bare.
+fn process_first_stage(
+    memory: Memory,
+    tc: u64,
+    pdtp: u64,
+    second: Second,
+    request: &Request,
+) -> Result<u64, Fault> {
+    let levels = pdtp >> 60;
+    let process = match request.process {
+        Some(process) => process,
+        None if tc & DPE != 0 => 0,
+        None => return Ok(0),
+    };
+    match levels {
+        0 => return Ok(0),
+        1 if process >> 8 != 0 => return Err(DISALLOWED),
+        2 if process >> 17 != 0 => return Err(DISALLOWED),
+        _ => {}
+    }
+    let reach = |address: u64| match second {
+        None => Ok(address),
+        Some(root) => match memory.second_stage(root, address, needs(Access::Read)) {
+            Ok(place) => Ok(place),
+            Err(Broken::Load) => Err(PDT_LOAD),
+            Err(Broken::Entry) => Err(guest_page_fault(request.access)),
+        },
+    };
+    let mut table = (pdtp & PAGE_NUMBER) << 12;
+    let mut shift = 8 + 9 * (levels - 1);
+    while shift > 8 {
+        shift -= 9;
+        let index = process >> shift & 0x1FF;
+        let entry = memory.load(reach(table + index * 8)?);
+        table = non_leaf(entry.ok_or(PDT_LOAD)?, PDT_INVALID, PDT_MISCONFIGURED)?;
+    }
+    let place = reach(table + (process & 0xFF) * 16)?;
+    let [ta, fsc] = memory.load_all(place).ok_or(PDT_LOAD)?;
+    if ta & V == 0 {
+        return Err(PDT_INVALID);
+    }
+    let set = ta & !(PSCID | 7) | fsc & MIDDLE | (fsc >> 60 & !8);
+    if set != 0 {
+        return Err(PDT_MISCONFIGURED);
+    }
+    if request.supervisor && ta & 2 == 0 {
+        return Err(DISALLOWED);
+    }
+    Ok(fsc)
+}
+
+/// How the first stage fails: by itself, or in the second stage's walk to an entry.
+enum FirstBroken {
+    Own(Broken),
+    Guest(Broken),
+}
+
+impl From<Broken> for FirstBroken {
+    fn from(broken: Broken) -> FirstBroken {
+        FirstBroken::Own(broken)
+    }
+}
+
+/// The device's address, by the first stage.
+#[inline]
+fn first_stage(
+    memory: Memory,
+    iosatp: u64,
+    second: Second,
+    request: &Request,
+) -> Result<u64, Fault> {
+    let access = request.access;
+    let high = (request.address as i64) >> 38;
+    if high != 0 && high != -1 {
+        return Err(page_fault(access));
+    }
+    let need = needs(access);
+    let mask = HIGH | need | U;
+    let need = if request.supervisor { need } else { need | U };
+    let root = (iosatp & PAGE_NUMBER) << 12;
+    let reach = |address: u64| match second {
+        None => Ok(address),
+        Some(root) => memory
+            .second_stage(root, address, needs(Access::Read))
+            .map_err(FirstBroken::Guest),
+    };
+    memory
+        .walk(root, 0x1FF, request.address, mask, need, reach)
+        .map_err(|broken| match broken {
+            FirstBroken::Own(Broken::Load) => access_fault(access, Stage::First),
+            FirstBroken::Own(Broken::Entry) => page_fault(access),
+            FirstBroken::Guest(Broken::Load) => access_fault(access, Stage::Second),
+            FirstBroken::Guest(Broken::Entry) => guest_page_fault(access),
+        })
+}
+
+/// Packs the bits of a value that the mask picks, a run of ones at a time.
+#[inline]
+fn pack(value: u64, mask: u64) -> u64 {
+    let mut rest = mask;
+    let mut packed = 0;
+    let mut place = 0;
+    while rest != 0 {
+        let low = rest.trailing_zeros();
+        let width = (rest >> low).trailing_ones();
+        let run = (1 << width) - 1;
+        packed |= (value >> low & run) << place;
+        place += width;
+        rest &= !(run << low);
+    }
+    packed
+}
+
+/// A message, by its table.
+#[inline]
+fn message(
+    memory: Memory,
+    msiptp: u64,
+    mask: u64,
+    address: u64,
+    access: Access,
+) -> Result<Found, Fault> {
+    let table = (msiptp & PAGE_NUMBER) << 12;
+    if table & ((16 << mask.count_ones()) - 1) != 0 {
+        return Err(MSI_MISCONFIGURED);
+    }
+    let place = table + 16 * pack(address >> 12, mask);
+    let [first, second] = memory.load_all(place).ok_or(MSI_LOAD)?;
+    if first & V == 0 {
+        return Err(MSI_INVALID);
+    }
+    let found = match first >> 1 & 3 {
+        3 if first & (HIGH | 0x3F8) == 0 => {
+            Found::Redirected((first >> 10 & PAGE_NUMBER) << 12 | address & 0xFFF)
+        }
+        1 if first & (HIGH | 0x78) | second & (HIGH & !(1 << 60)) == 0 => {
+            Found::Record(first, second)
+        }
+        _ => return Err(MSI_MISCONFIGURED),
+    };
+    if access == Access::Execute {
+        return Err(access_fault(access, Stage::MessageTable));
+    }
+    Ok(found)
+}
+
+/// A message under an MRIF entry: stored, discarded or refused.
+#[inline]
+fn record(start: u64, window: &mut [u8], request: &Request, first: u64, second: u64) -> Answer {
+    let identity = match request.address % 4_096 {
+        0 => u64::from(request.value),
+        4 => u64::from(request.value.swap_bytes()),
+        _ => return Answer::Discarded,
+    };
+    if request.access != Access::Write || request.length != 4 || identity > 2_047 {
+        return Answer::Discarded;
+    }
+    let file = (first >> 7 & ((1 << 47) - 1)) << 9;
+    let offset = file.wrapping_sub(start);
+    // Files lie on 512 bytes and the window is whole pages: a file lies inside whole or not at all.
+    if offset >= window.len() as u64 {
+        return Answer::Refused(2007);
+    }
+    let Some(byte) = window.get_mut(byte_of(offset, identity)) else {
+        return Answer::Refused(2007);
+    };
+    *byte |= 1 << (identity % 8);
+    Answer::Stored {
+        file,
+        notice: (second >> 10 & PAGE_NUMBER) << 12,
+        number: second & 0x3FF | (second >> 60 & 1) << 10,
+    }
+}

@@ -1,0 +1,323 @@
+//! The rows of the benchmark: a world, and calls over it.
+
+use crate::call::{Call, PROCESS_GIVEN, SUPERVISOR};
+use crate::plain::Access;
+use crate::tables::{process_id, size, Plan, World, DATA, MESSAGES};
+use yasmurekh_reference::random::Random;
+
+/// What a row's calls are.
+#[derive(Clone, Copy, Debug, PartialEq, Eq)]
+pub enum Kind {
+    Requests,
+    Takes,
+}
+
+pub struct Row {
+    pub name: String,
+    pub kind: Kind,
+    pub world: World,
+    pub calls: Vec<Call>,
+    /// The answer kinds that the row's calls must all have.
+    pub answers: &'static [u64],
+    /// The cause or refusal, where the row is of one.
+    pub number: Option<u64>,
+}
+
+/// Calls of a row; in random order, so that no branch predictor learns it by heart.
+const CALLS: usize = 8_192;
+/// Calls of the mix.
+const MIX: usize = 1_000_000;
+
+fn random() -> Random {
+    Random::new(11, 0)
+}
+
+fn data_offset(random: &mut Random, plan: &Plan) -> u64 {
+    let level = plan.first.or(plan.second).unwrap_or(0);
+    let page = random.below(plan.pages) * size(level);
+    page + random.below(size(level) / 8) * 8
+}
+
+/// Where a device's addresses of its data begin.
+fn data_base(plan: &Plan) -> u64 {
+    match (plan.first, plan.second) {
+        (None, Some(_)) => 0x80_0000_0000,
+        _ => DATA,
+    }
+}
+
+/// A read or a write of data.
+fn data_call(random: &mut Random, world: &World) -> Call {
+    let device = random.pick(&world.devices);
+    let address = data_base(&world.plan) + data_offset(random, &world.plan);
+    let mut call = Call::read(device, address);
+    if random.chance(50) {
+        call.access = Access::Write;
+    }
+    if world.plan.processes > 0 {
+        call.process = process_id(random.below(world.plan.processes));
+        call.flags = PROCESS_GIVEN;
+    }
+    call
+}
+
+/// A message to one of the entries that store.
+fn message_call(random: &mut Random, world: &World) -> Call {
+    let device = random.pick(&world.devices);
+    let number = random.below(world.message_pages.len() as u64);
+    let page = match world.plan.first {
+        Some(_) => MESSAGES + 4_096 * number,
+        None => world.message_pages[number as usize],
+    };
+    let identity = random.below(2_048) as u32;
+    if random.chance(25) {
+        return Call::write(device, page + 4, identity.swap_bytes());
+    }
+    Call::write(device, page, identity)
+}
+
+fn row(name: &str, plan: Plan, answers: &'static [u64]) -> Row {
+    let world = World::new(plan);
+    let mut random = random();
+    let calls = (0..CALLS).map(|_| data_call(&mut random, &world)).collect();
+    Row {
+        name: name.to_string(),
+        kind: Kind::Requests,
+        world,
+        calls,
+        answers,
+        number: None,
+    }
+}
+
+fn messages(name: &str, mask: u64, first: Option<u32>) -> Row {
+    let plan = Plan {
+        mask: Some(mask),
+        first,
+        ..Plan::default()
+    };
+    let mut row = row(name, plan, &[2]);
+    let mut random = random();
+    row.calls = (0..CALLS)
+        .map(|_| message_call(&mut random, &row.world))
+        .collect();
+    row
+}
+
+/// Changes every message entry of a row.
+fn change_entries(row: &mut Row, first: u64) {
+    // The tables of 2^4 entries begin at their own pages.
+    for device in row.world.devices.clone() {
+        let table = row.world.message_table(device);
+        for number in 0..16 {
+            row.world.put(table + 16 * number, first);
+        }
+    }
+}
+
+const FOUR_ONES: u64 = 0xF;
+
+fn redirected() -> Row {
+    let mut row = messages("redirected message, both stages", FOUR_ONES, Some(0));
+    change_entries(&mut row, 0xA00_0407);
+    row.answers = &[1];
+    row
+}
+
+fn message_fault() -> Row {
+    let mut row = messages("fault: message table (262)", FOUR_ONES, Some(0));
+    change_entries(&mut row, 2);
+    row.answers = &[4];
+    row.number = Some(262);
+    row
+}
+
+fn file_outside() -> Row {
+    let name = "refusal 2007: file outside the window, last of all";
+    let mut row = messages(name, FOUR_ONES, Some(0));
+    change_entries(&mut row, 0x1000_0000 >> 2 | 3);
+    row.answers = &[5];
+    row.number = Some(2007);
+    row
+}
+
+fn refusals() -> Row {
+    let mut row = row("refusals 2003 to 2006", Plan::default(), &[5]);
+    let mut random = random();
+    for call in &mut row.calls {
+        match random.below(4) {
+            0 => call.device = 1 << 24,
+            1 => (call.process, call.flags) = (1 << 20, PROCESS_GIVEN),
+            2 => call.flags = SUPERVISOR,
+            _ => call.length = 4_097,
+        }
+    }
+    row
+}
+
+fn fault(name: &str, plan: Plan, number: u64, change: fn(&mut Call, &Plan)) -> Row {
+    let mut row = row(name, plan, &[4]);
+    row.number = Some(number);
+    for call in &mut row.calls {
+        call.access = Access::Read;
+        change(call, &row.world.plan);
+    }
+    row
+}
+
+fn processes() -> Plan {
+    Plan {
+        devices: 2,
+        processes: 4,
+        ..Plan::default()
+    }
+}
+
+fn faults() -> Vec<Row> {
+    let both = Plan::default();
+    vec![
+        fault("fault: directory (258)", both, 258, |call, _| {
+            call.device += 32
+        }),
+        fault(
+            "fault: process directory (266), PD20 under the second stage",
+            processes(),
+            266,
+            |call, _| call.process ^= 0x80,
+        ),
+        fault(
+            "fault: first stage (13), last level",
+            both,
+            13,
+            |call, plan| call.address += 4_096 * (plan.pages + 1),
+        ),
+        fault(
+            "fault: second stage (21), last level",
+            both,
+            21,
+            |call, plan| call.address = DATA + 4_096 * plan.pages,
+        ),
+        message_fault(),
+    ]
+}
+
+fn takes() -> Row {
+    let plan = Plan {
+        mask: Some(FOUR_ONES),
+        ..Plan::default()
+    };
+    let mut row = row("takes", plan, &[6]);
+    row.kind = Kind::Takes;
+    let mut random = random();
+    for call in &mut row.calls {
+        call.address = random.pick(&row.world.files);
+        call.value = random.below(2_048) as u32;
+    }
+    row
+}
+
+/// Req 11: 80 percent translations under both stages, 20 percent stored.
+fn mix() -> Row {
+    let plan = Plan {
+        mask: Some(0xFF),
+        ..Plan::default()
+    };
+    let mut row = row(
+        "mix of Req 11: 80 % both stages, 20 % stored",
+        plan,
+        &[0, 2],
+    );
+    let mut random = random();
+    row.calls = (0..MIX)
+        .map(|_| {
+            if random.chance(80) {
+                data_call(&mut random, &row.world)
+            } else {
+                message_call(&mut random, &row.world)
+            }
+        })
+        .collect();
+    row
+}
+
+/// The rows of the main table.
+pub fn main_rows() -> Vec<Row> {
+    let plan = |first, second, pages| Plan {
+        first,
+        second,
+        pages,
+        ..Plan::default()
+    };
+    let mut rows = vec![
+        mix(),
+        row(
+            "both stages, 4 KiB / 4 KiB",
+            plan(Some(0), Some(0), 64),
+            &[0],
+        ),
+        row(
+            "both stages, 2 MiB / 2 MiB",
+            plan(Some(1), Some(1), 64),
+            &[0],
+        ),
+        row(
+            "both stages, 1 GiB / 1 GiB",
+            plan(Some(2), Some(2), 8),
+            &[0],
+        ),
+        row("first stage only, 4 KiB", plan(Some(0), None, 64), &[0]),
+        row("second stage only, 4 KiB", plan(None, Some(0), 64), &[0]),
+        row("PD20 and both stages, 4 KiB / 4 KiB", processes(), &[0]),
+        messages("stored, both stages, mask of 8 ones", 0xFF, Some(0)),
+        messages("stored, first stage Bare, mask of 1 one", 1, None),
+        messages("stored, first stage Bare, mask of 8 ones", 0xFF, None),
+        messages(
+            "stored, first stage Bare, mask of 8 ones, spread",
+            0x5555,
+            None,
+        ),
+        messages("stored, first stage Bare, mask of 16 ones", 0xFFFF, None),
+        messages(
+            "stored, first stage Bare, mask of 29 ones",
+            0x1FFF_FFFF,
+            None,
+        ),
+        redirected(),
+        refusals(),
+        file_outside(),
+    ];
+    rows.append(&mut faults());
+    rows.push(takes());
+    rows
+}
+
+/// The same tables in windows of several sizes.
+pub fn window_rows() -> Vec<Row> {
+    let sizes = [64 << 10, 1 << 20, 16 << 20, 64 << 20];
+    let made = sizes.map(|window| {
+        let plan = Plan {
+            window,
+            directory: 1,
+            devices: 1,
+            ..Plan::default()
+        };
+        let name = match window >> 20 {
+            0 => format!("window of {} KiB", window >> 10),
+            mebibytes => format!("window of {mebibytes} MiB"),
+        };
+        row(&name, plan, &[0])
+    });
+    made.into()
+}
+
+/// The same translation below directories of one, two and three levels.
+pub fn depth_rows() -> Vec<Row> {
+    let made = [1, 2, 3].map(|directory| {
+        let plan = Plan {
+            directory,
+            ..Plan::default()
+        };
+        row(&format!("directory levels: {directory}"), plan, &[0])
+    });
+    made.into()
+}

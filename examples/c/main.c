@@ -1,0 +1,216 @@
+/*
+ * A small use of Yasmurekh from C: one window with tables and interrupt files,
+ * a translation under both stages, a message, its take, a refusal and faults.
+ */
+#include <inttypes.h>
+#include <stdio.h>
+#include <string.h>
+
+#include "yasmurekh.h"
+
+/* The window: 13 pages of physical memory from 1 GiB on. */
+#define START UINT64_C(0x40000000)
+#define PAGES 13
+#define DIRECTORY (START + 0x0000)
+#define MESSAGES (START + 0x1000)
+#define FILES (START + 0x2000)
+#define SECOND_ROOT (START + 0x4000) /* four pages, on 16 KiB */
+#define SECOND_1 (START + 0x8000)
+#define SECOND_0 (START + 0x9000)
+#define FIRST_ROOT (START + 0xA000)
+#define FIRST_1 (START + 0xB000)
+#define FIRST_0 (START + 0xC000)
+
+/* What the guest sees: its memory, and the pages of its virtual interrupt files. */
+#define GUEST_MEMORY UINT64_C(0x80000000)
+#define GUEST_FILES UINT64_C(0x28004000)
+
+/* Physical memory outside the window: a buffer of the device, and where notices go. */
+#define BUFFER UINT64_C(0x90005000)
+#define NOTICES UINT64_C(0x48000000)
+
+#define DEVICE 1u
+
+static uint8_t window[PAGES * 4096];
+
+/* Puts a doubleword at a physical address of the window, little-endian. */
+static void put(uint64_t address, uint64_t value)
+{
+    unsigned i;
+    for (i = 0; i < 8; i++)
+        window[address - START + i] = (uint8_t)(value >> (8 * i));
+}
+
+/* A page-table entry, and a directory's: page number in bits 53:10, flags below. */
+static uint64_t entry(uint64_t page, uint64_t flags)
+{
+    return (page >> 12) << 10 | flags;
+}
+
+#define TABLE UINT64_C(0x01) /* V */
+#define USER UINT64_C(0xDF)  /* V R W X U A D */
+
+/* A root with its mode, as iohgatp, fsc and msiptp have it. */
+static uint64_t root(uint64_t mode, uint64_t page)
+{
+    return mode << 60 | page >> 12;
+}
+
+/* Second stage: guest page n of the guest's memory is this physical page. */
+static void map_guest(unsigned n, uint64_t page)
+{
+    put(SECOND_0 + 8 * n, entry(page, USER));
+}
+
+static void lay_out(void)
+{
+    uint64_t context = DIRECTORY + 64 * DEVICE;
+
+    /* The device context: tc, iohgatp, ta, fsc, msiptp, mask, pattern, reserved. */
+    put(context, 1);
+    put(context + 8, root(8, SECOND_ROOT));   /* Sv39x4 */
+    put(context + 24, root(8, GUEST_MEMORY)); /* Sv39, its root at a guest address */
+    put(context + 32, root(1, MESSAGES));     /* flat message table */
+    put(context + 40, 3);                     /* mask: four files */
+    put(context + 48, GUEST_FILES >> 12);     /* pattern */
+
+    /* Second stage: 2 GiB is entry 2 of the root. */
+    put(SECOND_ROOT + 8 * 2, entry(SECOND_1, TABLE));
+    put(SECOND_1, entry(SECOND_0, TABLE));
+    map_guest(0, FIRST_ROOT);
+    map_guest(1, FIRST_1);
+    map_guest(2, FIRST_0);
+    map_guest(5, BUFFER);
+
+    /* First stage, whose entries name guest pages. */
+    put(FIRST_ROOT, entry(GUEST_MEMORY + 0x1000, TABLE));
+    put(FIRST_1, entry(GUEST_MEMORY + 0x2000, TABLE));
+    put(FIRST_0 + 8 * 1, entry(GUEST_MEMORY + 0x5000, USER)); /* the buffer */
+    put(FIRST_0 + 8 * 2, entry(GUEST_FILES + 0x2000, USER));  /* file number 2 */
+    put(FIRST_0 + 8 * 4, entry(GUEST_MEMORY + 0x6000, USER)); /* not in the second stage */
+
+    /* Message entry 2, mode MRIF: the file, then notice 1029 (bit 10 at bit 60). */
+    put(MESSAGES + 16 * 2, (FILES + 0x200) >> 9 << 7 | 3);
+    put(MESSAGES + 16 * 2 + 8, UINT64_C(1) << 60 | entry(NOTICES, 5));
+}
+
+static const char *stage_name(uint64_t stage)
+{
+    switch (stage) {
+    case YASMUREKH_STAGE_DIRECTORY: return "device directory";
+    case YASMUREKH_STAGE_PROCESS_DIRECTORY: return "process directory";
+    case YASMUREKH_STAGE_FIRST: return "first stage";
+    case YASMUREKH_STAGE_SECOND: return "second stage";
+    default: return "message table";
+    }
+}
+
+/* Prints an answer in words. */
+static void show(const char *what, const uint64_t out[YASMUREKH_ANSWER_WORDS])
+{
+    uint64_t first = out[YASMUREKH_OUT_FIRST];
+
+    printf("%s: ", what);
+    switch (out[YASMUREKH_OUT_KIND]) {
+    case YASMUREKH_TRANSLATED:
+        printf("translated to 0x%" PRIx64 "\n", first);
+        break;
+    case YASMUREKH_REDIRECTED:
+        printf("message redirected to 0x%" PRIx64 "\n", first);
+        break;
+    case YASMUREKH_STORED:
+        printf("message stored in the file at 0x%" PRIx64
+               "; write notice %" PRIu64 " to 0x%" PRIx64 "\n",
+               first, out[YASMUREKH_OUT_THIRD], out[YASMUREKH_OUT_SECOND]);
+        break;
+    case YASMUREKH_DISCARDED:
+        printf("message discarded\n");
+        break;
+    case YASMUREKH_FAULT:
+        printf("fault, cause %" PRIu64 ", found by the %s\n", first,
+               stage_name(out[YASMUREKH_OUT_STAGE]));
+        break;
+    case YASMUREKH_REFUSED:
+        printf("refused, %" PRIu64 "\n", first);
+        break;
+    default:
+        printf("take made, the interrupt was %s\n", first ? "pending" : "not pending");
+        break;
+    }
+}
+
+/* A request of a device over the window, without a process_id. */
+static void request(const char *what, uint64_t device, uint64_t access, uint64_t address,
+                    uint64_t length, uint32_t value)
+{
+    uint64_t out[YASMUREKH_ANSWER_WORDS];
+
+    yasmurekh_request(START, window, sizeof window, YASMUREKH_MODE_1LVL, DIRECTORY >> 12, device,
+                      0, 0, access, address, length, value, out, YASMUREKH_ANSWER_WORDS);
+    show(what, out);
+}
+
+static void take(const char *what, uint64_t file, uint64_t identity)
+{
+    uint64_t out[YASMUREKH_ANSWER_WORDS];
+
+    yasmurekh_take(START, window, sizeof window, file, identity, out, YASMUREKH_ANSWER_WORDS);
+    show(what, out);
+}
+
+/* Prints what is pending in a file. */
+static void report(const char *what, uint64_t file)
+{
+    uint64_t out[YASMUREKH_REPORT_WORDS];
+    unsigned n;
+
+    yasmurekh_report(START, window, sizeof window, file, out, YASMUREKH_REPORT_WORDS);
+    printf("%s: refusal %" PRIu64 ", pending %" PRIu64, what, out[YASMUREKH_REPORT_REFUSAL],
+           out[YASMUREKH_REPORT_COUNT]);
+    for (n = 0; n < YASMUREKH_IDENTITIES; n++)
+        if (out[YASMUREKH_REPORT_PENDING(n / 64)] >> n % 64 & 1)
+            printf(", identity %u", n);
+    printf("\n");
+}
+
+/* What holds where a buffer is too short, or the window is empty. */
+static void edges(void)
+{
+    uint64_t out[YASMUREKH_ANSWER_WORDS] = {9, 9, 9, 9, 9};
+    uint64_t status = yasmurekh_request(START, window, sizeof window, YASMUREKH_MODE_BARE, 0,
+                                        DEVICE, 0, 0, YASMUREKH_READ, 0x1234, 8, 0, out, 4);
+
+    printf("buffer of 4 words: status %" PRIu64 ", first word still %" PRIu64 "\n", status, out[0]);
+    status = yasmurekh_take(START, window, sizeof window, FILES, 37, NULL, 0);
+    printf("no buffer: status %" PRIu64 "\n", status);
+    yasmurekh_request(START, NULL, 0, YASMUREKH_MODE_1LVL, DIRECTORY >> 12, DEVICE, 0, 0,
+                      YASMUREKH_READ, 0x1234, 8, 0, out, YASMUREKH_ANSWER_WORDS);
+    show("empty window", out);
+}
+
+int main(void)
+{
+    uint8_t before[sizeof window];
+
+    lay_out();
+    request("read of the buffer", DEVICE, YASMUREKH_READ, 0x1234, 8, 0);
+    request("write of 37 to file 2", DEVICE, YASMUREKH_WRITE, 0x2000, 4, 37);
+    printf("byte 4 of the file: %d\n", window[FILES + 0x200 + 4 - START]);
+    request("write of 2047 to file 2, big-endian", DEVICE, YASMUREKH_WRITE, 0x2004, 4, 0xFF070000);
+    report("report of the file", FILES + 0x200);
+    take("take of 37", FILES + 0x200, 37);
+    take("take of 37 again", FILES + 0x200, 37);
+    report("report of the file", FILES + 0x200);
+    report("report of no file", FILES + 0x201);
+
+    memcpy(before, window, sizeof window);
+    request("read across the page's end", DEVICE, YASMUREKH_READ, 0x1FFC, 8, 0);
+    request("read of a page not mapped", DEVICE, YASMUREKH_READ, 0x3000, 8, 0);
+    request("write to a guest page not mapped", DEVICE, YASMUREKH_WRITE, 0x4000, 8, 0);
+    request("read-for-execute of file 2", DEVICE, YASMUREKH_READ_FOR_EXECUTE, 0x2000, 4, 0);
+    request("read by device 2", 2, YASMUREKH_READ, 0x1234, 8, 0);
+    request("an access numbered 3", DEVICE, 3, 0x1234, 8, 0);
+    edges();
+    printf("window after these: %s\n", memcmp(before, window, sizeof window) ? "changed" : "unchanged");
+    return 0;
+}
