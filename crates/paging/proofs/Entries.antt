@@ -1,9 +1,10 @@
--- A page-table entry and its page, by the tests that the code makes. Assumes nothing.
+-- A page-table entry and its step, by the tests that the code makes. Assumes nothing.
 use Prim.Native.Nat.{ℕ, _+_, _*_, _/_, _%_, _^_, _<_}
-use mathlib.Core.Bool.{Bool, true, false}
+use mathlib.Core.Bool.{Bool, true, false, not, _&&_, _||_}
 use mathlib.Core.Path.{_≡_, refl, sym, ap, _∙_, subst}
 use native.Mathlib.Omega.{arith}
 use native.Mathlib.Nat.{mod-lt}
+use lib.Dec.{eqb}
 use lib.Pow.{pow-mono}
 use borrow.Author.Tests.{eq-eqb, ne-eqb}
 use Rattle.memory.specs.Bits.{bit}
@@ -11,21 +12,19 @@ use Rattle.memory.specs.declared.Load.{Load}
 use Rattle.memory.specs.declared.Load.the-variants.{Value, Violation}
 use Rattle.causes.specs.Causes.{faultAt}
 use Rattle.causes.specs.declared.Access.{Access}
+use Rattle.causes.specs.declared.Access.the-variants.{Read, Write, Execute}
 use Rattle.causes.specs.declared.Stage.{Stage}
 use Rattle.causes.specs.declared.FaultInfo.{FaultInfo}
 use Rattle.paging.specs.declared.Purpose.{Purpose}
-use Rattle.paging.specs.declared.Lookup.{Lookup}
-use Rattle.paging.specs.declared.Leaf.{Leaf}
-use Rattle.paging.specs.declared.Entry.{Entry}
-use Rattle.paging.specs.declared.Entry.the-variants.{Faulty, Table, Maps}
 use Rattle.paging.specs.declared.Translation.{Translation}
-use Rattle.paging.specs.declared.Translation.the-variants.{To, Fault}
+use Rattle.paging.specs.declared.Translation.the-variants.{Fault}
 use Rattle.paging.specs.declared.Step.{Step}
-use Rattle.paging.specs.declared.Step.the-variants.{Stop, Next}
-use Rattle.paging.specs.Purpose.{askedOf, pageFaultOf, accessFaultOf}
-use Rattle.paging.specs.Entry.{leafOf, kindOf, entryOf, permits, ownedBy, allows, mappedBy}
-use Rattle.paging.specs.Levels.{faulted, onEntry, onLoad}
-use Rattle.paging.specs.Within.{Near, Small, Paged}
+use Rattle.paging.specs.declared.Step.the-variants.{Stop}
+use Rattle.paging.specs.declared.Raw.{Raw}
+use Rattle.paging.specs.declared.Raw.the-variants.{Arrive, Unread}
+use Rattle.paging.specs.Purpose.{pageFaultOf, accessFaultOf}
+use Rattle.paging.specs.Tests.{soundBits, tableBits, permitBits, leafBits, rawLoad, toStep, toldOf}
+use Rattle.paging.specs.Entry.{leafOf, ownedBy}
 
 -- what a purpose's faults are
 pub page-fault-is : (p r : Purpose) (x : Access) (f : FaultInfo) → p ≡ r → f ≡ pageFaultOf r x → f ≡ pageFaultOf p x
@@ -42,60 +41,6 @@ fault-by s c d f h e = h ∙ ap (faultAt s) e
 
 pub ruleset fault-ways = (page-fault-is, access-fault-is, fault-with, fault-by)
 
--- whether a page permits an access
-module _ (q : Lookup) (l : Leaf) where
-  pub not-accessed : l .a ≡ false → false ≡ allows q l
-  unfolding allows
-  not-accessed h = simp h
-
-  module _ (o : Bool) (ha : l .a ≡ true) (ho : o ≡ ownedBy (q .user) l) where
-    pub not-owned : o ≡ false → false ≡ allows q l
-    unfolding allows
-    not-owned t = simp (ha, ← ho, t)
-
-    pub if-permitted : (x : Access) (r : Bool) → o ≡ true → x ≡ askedOf (q .purpose) (q .access) → r ≡ permits x l → r ≡ allows q l
-    unfolding allows
-    if-permitted x r t hx hr = hr ∙ simp (hx, ha, ← ho, t)
-
-pub ruleset allow-ways = (not-accessed, not-owned, if-permitted)
-
--- decode
-module _ (e : ℕ) (b : Bool) (hb : b ≡ bit e 0) where
-  pub decode-invalid : b ≡ false → Faulty ≡ entryOf e
-  unfolding entryOf
-  decode-invalid t = simp (← hb, t)
-
-  pub decode-reserved : b ≡ true → (e / 18014398509481984 % 1024 ≡ 0 → ⊥) → Faulty ≡ entryOf e
-  unfolding entryOf
-  decode-reserved t h = simp (← hb, t, ne-eqb (e / 18014398509481984 % 1024) 0 h)
-
-  pub decode-kind : (l : Leaf) (k : Entry) → b ≡ true → e / 18014398509481984 % 1024 ≡ 0 → l ≡ leafOf e → k ≡ kindOf (l .page) l → k ≡ entryOf e
-  unfolding entryOf
-  decode-kind l k t h hl hk = hk ∙ simp (hl, ← hb, t, h)
-
-pub leaf-page : (e : ℕ) (l : Leaf) → l ≡ leafOf e → l .page < 2 ^ 44
-leaf-page e l h = subst (λ (p : ℕ). p < 2 ^ 44) (sym (ap (λ (x : Leaf). x .page) h)) (omega arith)
-
-pub ruleset decode-ways = (decode-invalid, decode-reserved, decode-kind, leaf-page)
-
--- the address that a leaf gives
-module _ (q : Lookup) (n : ℕ) (l : Leaf) (ok : Bool) (h : ok ≡ allows q l) where
-  pub mapped-refused : (t : Translation) → ok ≡ false → t ≡ faulted q → t ≡ mappedBy q n l
-  unfolding mappedBy
-  mapped-refused t o e = e ∙ simp (← h, o)
-
-  module _ (o : ok ≡ true) (size : ℕ) (hs : size ≡ 2 ^ (9 * n)) where
-    pub mapped-misaligned : (t : Translation) → (l .page % size ≡ 0 → ⊥) → t ≡ faulted q → t ≡ mappedBy q n l
-    unfolding mappedBy
-    mapped-misaligned t r e = e ∙ simp (← h, o, ne-eqb (l .page % 2 ^ (9 * n)) 0 (simp hs at r))
-
-    pub mapped-to : (offset : ℕ) → offset ≡ q .address % 2 ^ (12 + 9 * n) → l .page % size ≡ 0 → To (l .page * 4096 + offset) ≡ mappedBy q n l
-    unfolding mappedBy
-    mapped-to offset e r = simp (← h, o, eq-eqb (l .page % 2 ^ (9 * n)) 0 (simp hs at r), e)
-
-pub faulted-near : (q : Lookup) (t : Translation) → t ≡ faulted q → Near t
-faulted-near q t e = subst Near (sym e) tt
-
 -- an offset within a page of level n
 pub offset-is : (a n span : ℕ) → span ≡ 2 ^ (12 + 9 * n) → a % span ≡ a % 2 ^ (12 + 9 * n)
 offset-is a n span e = ap (λ (k : ℕ). a % k) e
@@ -105,31 +50,83 @@ offset-small a n span h e p = omega (arith, mod-lt a p, pow-mono {i = 12 + 9 * n
 
 pub ruleset offset-ways = (offset-is, offset-small)
 
-pub ruleset mapped-ways = (mapped-refused, mapped-misaligned, mapped-to, faulted-near)
+-- a loaded entry, by the tests that the code makes
+pub raw-violates : (x : Access) (user : Bool) (a n : ℕ) (v : Load) → v ≡ Violation → Unread ≡ rawLoad x user a n v
+unfolding rawLoad
+raw-violates x user a n v e = sym (ap (rawLoad x user a n) e)
 
--- what a loaded entry leads to
-pub entry-violates : (q : Lookup) (n : ℕ) (v : Load) (f : FaultInfo) → v ≡ Violation → f ≡ accessFaultOf (q .purpose) (q .access) → Stop (Fault f) ≡ onLoad q n v
-unfolding onLoad
-entry-violates q n v f h e = ap (λ (x : FaultInfo). Stop (Fault x)) e ∙ sym (ap (onLoad q n) h)
+module _ (x : Access) (user : Bool) (a n e : ℕ) (v : Load) (hv : v ≡ Value e) (b : Bool) (hb : b ≡ tableBits e) where
+  pub raw-points : b ≡ true → Raw.Next (e / 1024 % 17592186044416) ≡ rawLoad x user a n v
+  unfolding rawLoad
+  raw-points t = simp (hv, ← hb, t)
 
-module _ (q : Lookup) (n e : ℕ) (v : Load) (d : Entry) (hv : v ≡ Value e) (hd : d ≡ entryOf e) where
-  entry-is : {x : Step} → x ≡ onEntry q n d → x ≡ onLoad q n v
-  unfolding onLoad
-  entry-is h = h ∙ ap (onEntry q n) hd ∙ sym (ap (onLoad q n) hv)
+  module _ (o : b ≡ false) (f : Bool) (hf : f ≡ leafBits e user x) where
+    pub raw-refuses : f ≡ false → Raw.Faulty ≡ rawLoad x user a n v
+    unfolding rawLoad
+    raw-refuses t = simp (hv, ← hb, o, ← hf, t)
 
-  pub entry-faults : (t : Translation) → d ≡ Faulty → t ≡ faulted q → Stop t ≡ onLoad q n v
-  entry-faults t h k = entry-is (ap Stop k ∙ sym (ap (onEntry q n) h))
+    module _ (t : f ≡ true) (size : ℕ) (hs : size ≡ 2 ^ (9 * n)) where
+      pub raw-misaligned : (e / 1024 % 17592186044416 % size ≡ 0 → ⊥) → Raw.Faulty ≡ rawLoad x user a n v
+      unfolding rawLoad
+      raw-misaligned r = simp (hv, ← hb, o, ← hf, t, ne-eqb (e / 1024 % 17592186044416 % 2 ^ (9 * n)) 0 (simp hs at r))
 
-  pub entry-maps : (l : Leaf) (t : Translation) → d ≡ Maps l → t ≡ mappedBy q n l → Stop t ≡ onLoad q n v
-  entry-maps l t h k = entry-is (ap Stop k ∙ sym (ap (onEntry q n) h))
+      pub raw-arrives : (off : ℕ) → off ≡ a % 2 ^ (12 + 9 * n) → e / 1024 % 17592186044416 % size ≡ 0 → Arrive (e / 1024 % 17592186044416 * 4096 + off) ≡ rawLoad x user a n v
+      unfolding rawLoad
+      raw-arrives off h r = simp (hv, ← hb, o, ← hf, t, eq-eqb (e / 1024 % 17592186044416 % 2 ^ (9 * n)) 0 (simp hs at r), h)
 
-  pub entry-points : (t : ℕ) → d ≡ Table t → Next t ≡ onLoad q n v
-  entry-points t h = entry-is (sym (ap (onEntry q n) h))
+pub ruleset entry-ways = (raw-violates, raw-points, raw-refuses, raw-misaligned, raw-arrives)
 
-pub maps-page : (d : Entry) (l : Leaf) → d ≡ Maps l → Paged d → l .page < 2 ^ 44
-maps-page d l e h = subst Paged e h
+pub stepped-is : (p : Purpose) (x : Access) (r k : Raw) (t : Step) → r ≡ k → t ≡ toStep p x k → t ≡ toStep p x r
+stepped-is p x r k t e h = h ∙ sym (ap (toStep p x) e)
 
-pub table-page : (d : Entry) (t : ℕ) → d ≡ Table t → Paged d → t < 2 ^ 44
-table-page d t e h = subst Paged e h
+pub told-is : (p : Purpose) (x : Access) (r k : Raw) (t : Translation) → r ≡ k → t ≡ toldOf p x k → t ≡ toldOf p x r
+told-is p x r k t e h = h ∙ sym (ap (toldOf p x) e)
 
-pub ruleset entry-ways = (entry-violates, entry-faults, entry-maps, entry-points, maps-page, table-page, faulted-near)
+pub page-stop : (p : Purpose) (x : Access) (f : FaultInfo) → f ≡ pageFaultOf p x → Stop (Fault f) ≡ Stop (Fault (pageFaultOf p x))
+page-stop p x f e = ap (λ (g : FaultInfo). Stop (Fault g)) e
+
+pub access-stop : (p : Purpose) (x : Access) (f : FaultInfo) → f ≡ accessFaultOf p x → Stop (Fault f) ≡ Stop (Fault (accessFaultOf p x))
+access-stop p x f e = ap (λ (g : FaultInfo). Stop (Fault g)) e
+
+pub page-told : (p : Purpose) (x : Access) (f : FaultInfo) → f ≡ pageFaultOf p x → Fault f ≡ Fault (pageFaultOf p x)
+page-told p x f e = ap Fault e
+
+pub access-told : (p : Purpose) (x : Access) (f : FaultInfo) → f ≡ accessFaultOf p x → Fault f ≡ Fault (accessFaultOf p x)
+access-told p x f e = ap Fault e
+
+pub ruleset told-ways = (stepped-is, told-is, page-stop, access-stop, page-told, access-told)
+
+-- the joined tests
+pub own-user : (user b : Bool) (e : ℕ) → user ≡ true → b ≡ bit e 4 → b ≡ ownedBy user (leafOf e)
+own-user user b e t h = h ∙ simp t
+
+pub own-supervisor : (user b : Bool) (e : ℕ) → user ≡ false → b ≡ bit e 4 → not b ≡ ownedBy user (leafOf e)
+own-supervisor user b e t h = ap not h ∙ simp t
+
+pub ruleset own-ways = (own-user, own-supervisor)
+
+module _ (x : Access) (e : ℕ) where
+  pub permit-read : (r : Bool) → x ≡ Read → r ≡ bit e 1 → r ≡ permitBits x e
+  permit-read r k h = h ∙ simp k
+
+  pub permit-write : (r w d : Bool) → x ≡ Write → r ≡ bit e 1 → w ≡ bit e 2 → d ≡ bit e 7 → (r && w && d) ≡ permitBits x e
+  permit-write r w d k hr hw hd = simp (hr, hw, hd, k)
+
+  pub permit-execute : (r w y : Bool) → x ≡ Execute → y ≡ bit e 3 → r ≡ bit e 1 → w ≡ bit e 2 → (y && (r || not w)) ≡ permitBits x e
+  permit-execute r w y k hy hr hw = simp (hy, hr, hw, k)
+
+pub ruleset permit-ways = (permit-read, permit-write, permit-execute)
+
+pub sound-is : (e : ℕ) (v : Bool) → v ≡ bit e 0 → (v && eqb (e / 18014398509481984 % 1024) 0) ≡ soundBits e
+sound-is e v h = simp h
+
+pub leaf-is : (e : ℕ) (user : Bool) (x : Access) (s a o p : Bool) → s ≡ soundBits e → a ≡ bit e 6 → o ≡ ownedBy user (leafOf e) → p ≡ permitBits x e → (s && a && o && p) ≡ leafBits e user x
+unfolding leafBits
+leaf-is e user x s a o p hs ha ho hp = simp (hs, ha, ho, hp)
+
+pub table-is : (e : ℕ) (s r w x u a d : Bool) → s ≡ soundBits e → r ≡ bit e 1 → w ≡ bit e 2 → x ≡ bit e 3 → u ≡ bit e 4 → a ≡ bit e 6 → d ≡ bit e 7
+    → (s && not r && not w && not x && not u && not a && not d) ≡ tableBits e
+unfolding tableBits
+table-is e s r w x u a d hs hr hw hx hu ha hd = simp (hs, hr, hw, hx, hu, ha, hd)
+
+pub ruleset bit-ways = (sound-is, leaf-is, table-is)

@@ -1,3 +1,4 @@
 pub mod Schemes
 pub mod Entries
+pub mod Tested
 pub mod Turns

@@ -20,7 +20,11 @@ use Rattle.paging.specs.Scheme.{levelsOf, legalOf, indexOf}
 use Rattle.paging.specs.Levels.{faulted, onLoad, onPlace, onStep, entryAt, levelOf, levels, walkOf}
 use Rattle.paging.specs.Stages.{direct, guestLookup, secondStageOf, entryReach, deviceLookup, firstStageOf}
 use Rattle.paging.specs.Within.{Near, Within, Small}
-use Rattle.paging.proofs.Entries.{faulted-near}
+use Rattle.paging.specs.declared.Raw.{Raw}
+use Rattle.paging.specs.declared.Raw.the-variants.{Arrive, Unread}
+use Rattle.paging.specs.Purpose.{askedOf, pageFaultOf}
+use Rattle.paging.specs.Tests.{rawLoad, toStep, toldOf, onRaw, rawLevels, Tight}
+use Rattle.paging.proofs.Tested.{tested, raw-walk}
 
 one-less : (left : ℕ) → 0 < left → suc (left - 1) ≡ left
 one-less left p = omega arith
@@ -41,14 +45,66 @@ module _ (m : ℕ → Load) (s : Scheme) (q : Lookup) (reach : ℕ → Walk Tran
   pub level-loads : (p : ℕ) (v : Load) (x : Step) → t ≡ To p → v ≡ m p → x ≡ onLoad q n v → x ≡ run m (levelOf s q reach n table)
   level-loads p v x e h k = placed x (at m (onPlace q n) e (loads m p (λ w. done (onLoad q n w)) h k))
 
-pub level-direct : (m : ℕ → Load) (s : Scheme) (q : Lookup) (n table i : ℕ) (v : Load) (x : Step)
-    → i ≡ indexOf s (q .address) n → v ≡ m (table * 4096 + 8 * i) → x ≡ onLoad q n v → x ≡ run m (levelOf s q direct n table)
-level-direct m s q n table i v x hi h k = level-loads m s q direct n table i (To (table * 4096 + 8 * i)) hi refl (table * 4096 + 8 * i) v x refl h k
-
 pub stop-small : (t : Translation) (f : FaultInfo) → t ≡ Fault f → Near t
 stop-small t f e = subst Near (sym e) tt
 
-pub ruleset level-ways = (level-stops, level-loads, level-direct, stop-small)
+-- the step of a first-stage entry
+pub level-steps : (m : ℕ → Load) (s : Scheme) (q : Lookup) (reach : ℕ → Walk Translation) (n table i : ℕ) (t : Translation) (p : ℕ) (v : Load) (k : Access) (r : Raw) (x : Step)
+    → i ≡ indexOf s (q .address) n → t ≡ run m (reach (table * 4096 + 8 * i)) → t ≡ To p → v ≡ m p
+    → k ≡ askedOf (q .purpose) (q .access) → r ≡ rawLoad k (q .user) (q .address) n v → x ≡ toStep (q .purpose) (q .access) r → x ≡ run m (levelOf s q reach n table)
+level-steps m s q reach n table i t p v k r x hi ht e h hk hr hx =
+    level-loads m s q reach n table i t hi ht p v x e h
+    (hx ∙ ap (toStep (q .purpose) (q .access)) (hr ∙ ap (λ (y : Access). rawLoad y (q .user) (q .address) n v) hk) ∙ tested q n v)
+
+small-of : (p : Purpose) (x : Access) (r : Raw) → Tight r → Small (toStep p x r)
+small-of p x (Arrive a) h = h
+small-of p x (Raw.Next t) h = h
+small-of p x Raw.Faulty h = tt
+small-of p x Unread h = tt
+
+pub step-small : (p : Purpose) (x : Access) (r : Raw) (t : Step) → t ≡ toStep p x r → Tight r → Small t
+step-small p x r t e h = subst Small (sym e) (small-of p x r h)
+
+pub ruleset level-ways = (level-stops, level-steps, stop-small, step-small)
+
+-- a turn of the walk of entries that lie where their addresses say
+module _ (m : ℕ → Load) (s : Scheme) (x : Access) (user : Bool) (a left table i : ℕ) (v : Load) (r w : Raw)
+    (p : 0 < left) (hi : i ≡ indexOf s a (left - 1)) (hv : v ≡ m (table * 4096 + 8 * i)) (hr : r ≡ rawLoad x user a (left - 1) v)
+    (hw : run m (rawLevels s x user a left table) ≡ w) where
+  raw-turned : run m (onRaw (rawLevels s x user a (left - 1)) r) ≡ w
+  unfolding rawLevels
+  raw-turned =
+      ap (λ (k : Raw). run m (onRaw (rawLevels s x user a (left - 1)) k)) (hr ∙ ap (rawLoad x user a (left - 1)) (hv ∙ ap (λ (j : ℕ). m (table * 4096 + 8 * j)) hi))
+      ∙ ap (λ (k : ℕ). run m (rawLevels s x user a k table)) (one-less left p)
+      ∙ hw
+
+  pub raw-goes : (k : ℕ) → r ≡ Raw.Next k → run m (rawLevels s x user a (left - 1) k) ≡ w
+  raw-goes k e = sym (ap (λ (y : Raw). run m (onRaw (rawLevels s x user a (left - 1)) y)) e) ∙ raw-turned
+
+  pub raw-arrived : (k : ℕ) → r ≡ Arrive k → Arrive k ≡ w
+  raw-arrived k e = sym (ap (λ (y : Raw). run m (onRaw (rawLevels s x user a (left - 1)) y)) e) ∙ raw-turned
+
+  pub raw-faulted : r ≡ Raw.Faulty → Raw.Faulty ≡ w
+  raw-faulted e = sym (ap (λ (y : Raw). run m (onRaw (rawLevels s x user a (left - 1)) y)) e) ∙ raw-turned
+
+  pub raw-unread : r ≡ Unread → Unread ≡ w
+  raw-unread e = sym (ap (λ (y : Raw). run m (onRaw (rawLevels s x user a (left - 1)) y)) e) ∙ raw-turned
+
+pub raw-ends : (m : ℕ → Load) (s : Scheme) (x : Access) (user : Bool) (a left table : ℕ) (w : Raw) → left ≤ 0 → run m (rawLevels s x user a left table) ≡ w → Raw.Faulty ≡ w
+unfolding rawLevels
+raw-ends m s x user a left table w p hw = sym (ap (λ (k : ℕ). run m (rawLevels s x user a k table)) (none-left left p)) ∙ hw
+
+pub raw-starts : (m : ℕ → Load) (s : Scheme) (x : Access) (user : Bool) (a left root : ℕ)
+    → left ≡ levelsOf s → run m (rawLevels s x user a left root) ≡ run m (rawLevels s x user a (levelsOf s) root)
+raw-starts m s x user a left root h = ap (λ (k : ℕ). run m (rawLevels s x user a k root)) h
+
+pub tight-next : (r : Raw) (k : ℕ) → r ≡ Raw.Next k → Tight r → k < 2 ^ 44
+tight-next r k e h = subst Tight e h
+
+pub tight-arrive : (r : Raw) (k : ℕ) → r ≡ Arrive k → Tight r → k < 2 ^ 57
+tight-arrive r k e h = subst Tight e h
+
+pub ruleset raw-ways = (tight-arrive, raw-goes, raw-arrived, raw-faulted, raw-unread, raw-ends, raw-starts, tight-next)
 
 -- a turn of the loop: `left` levels are left before it, and w is the answer of the whole walk
 module _ (m : ℕ → Load) (s : Scheme) (q : Lookup) (reach : ℕ → Walk Translation) (left table : ℕ) (t : Step) (w : Translation)
@@ -78,37 +134,40 @@ walk-starts m s q reach left root h = ap (λ (k : ℕ). run m (levels s q reach 
 pub small-next : (t : Step) (k : ℕ) → t ≡ Next k → Small t → k < 2 ^ 44
 small-next t k e h = subst Small e h
 
-pub small-stop : (t : Step) (a : Translation) → t ≡ Stop a → Small t → Near a
-small-stop t a e h = subst Small e h
-
-pub ruleset walk-ways = (walk-stops, walk-goes, walk-ends, walk-starts, small-next, small-stop, faulted-near)
+pub ruleset walk-ways = (walk-stops, walk-goes, walk-ends, walk-starts, small-next)
 
 -- the two stages
-near-within : (a : ℕ) (t : Translation) → Near t → Within a t
-near-within a (To p) h = omega arith
-near-within a (Fault f) h = tt
-
 module _ (m : ℕ → Load) (g : PageTable) (p : Purpose) (x : Access) (a : ℕ) where
   pub second-bare : g .on ≡ false → To a ≡ run m (secondStageOf g p x a)
   unfolding secondStageOf
   second-bare h = simp h
 
-  module _ (legal : Bool) (t : Translation) (h : g .on ≡ true) (hl : legal ≡ legalOf (g .scheme) a) where
-    pub second-illegal : legal ≡ false → t ≡ faulted (guestLookup p x a) → t ≡ run m (secondStageOf g p x a)
+  module _ (legal : Bool) (h : g .on ≡ true) (hl : legal ≡ legalOf (g .scheme) a) where
+    pub second-illegal : (f : FaultInfo) → legal ≡ false → f ≡ pageFaultOf p x → Fault f ≡ run m (secondStageOf g p x a)
     unfolding secondStageOf walkOf
-    second-illegal l e = e ∙ simp (h, ← hl, l)
+    second-illegal f l e = ap Fault e ∙ simp (h, ← hl, l)
 
-    pub second-walks : legal ≡ true → t ≡ run m (levels (g .scheme) (guestLookup p x a) direct (levelsOf (g .scheme)) (g .root)) → t ≡ run m (secondStageOf g p x a)
+    pub second-walks : (t : Translation) (k : Access) (r : Raw) → legal ≡ true → k ≡ askedOf p x
+        → r ≡ run m (rawLevels (g .scheme) k true a (levelsOf (g .scheme)) (g .root)) → t ≡ toldOf p x r → t ≡ run m (secondStageOf g p x a)
     unfolding secondStageOf walkOf
-    second-walks l e = e ∙ simp (h, ← hl, l)
+    second-walks t k r l hk hr e =
+        e ∙ ap (toldOf p x) (hr ∙ ap (λ (y : Access). run m (rawLevels (g .scheme) y true a (levelsOf (g .scheme)) (g .root))) hk)
+        ∙ raw-walk m (g .scheme) (guestLookup p x a) (levelsOf (g .scheme)) (g .root)
+        ∙ simp (h, ← hl, l)
 
-pub second-within : (a : ℕ) (t : Translation) → Near t → Within a t
-second-within a t h = near-within a t h
+within-of : (a : ℕ) (p : Purpose) (x : Access) (r : Raw) → Tight r → Within a (toldOf p x r)
+within-of a p x (Arrive b) h = omega arith
+within-of a p x (Raw.Next t) h = tt
+within-of a p x Raw.Faulty h = tt
+within-of a p x Unread h = tt
+
+pub told-within : (a : ℕ) (p : Purpose) (x : Access) (r : Raw) (t : Translation) → t ≡ toldOf p x r → Tight r → Within a t
+told-within a p x r t e h = subst (Within a) (sym e) (within-of a p x r h)
 
 pub bare-within : (a : ℕ) → a ≤ a + 2 ^ 57
 bare-within a = omega arith
 
-pub ruleset second-ways = (second-bare, second-illegal, second-walks, second-within, bare-within, faulted-near)
+pub ruleset second-ways = (second-bare, second-illegal, second-walks, told-within, bare-within)
 
 module _ (m : ℕ → Load) (f g : PageTable) (x : Access) (user : Bool) (a : ℕ) where
   pub first-bare : f .on ≡ false → To a ≡ run m (firstStageOf f g x user a)

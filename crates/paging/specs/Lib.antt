@@ -4,3 +4,4 @@ pub mod Entry
 pub mod Levels
 pub mod Stages
 pub mod Within
+pub mod Tests

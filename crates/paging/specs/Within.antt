@@ -4,8 +4,6 @@ use Rattle.paging.specs.declared.Translation.{Translation}
 use Rattle.paging.specs.declared.Translation.the-variants.{To, Fault}
 use Rattle.paging.specs.declared.Step.{Step}
 use Rattle.paging.specs.declared.Step.the-variants.{Stop, Next}
-use Rattle.paging.specs.declared.Entry.{Entry}
-use Rattle.paging.specs.declared.Entry.the-variants.{Faulty, Table, Maps}
 
 -- an address that an entry gives
 abbrev pub Near : Translation → Type 0
@@ -21,8 +19,3 @@ Within a (Fault f) = Unit {0}
 abbrev pub Small : Step → Type 0
 Small (Stop t) = Near t
 Small (Next table) = table < 2 ^ 44
-
-abbrev pub Paged : Entry → Type 0
-Paged Faulty = Unit {0}
-Paged (Table page) = page < 2 ^ 44
-Paged (Maps l) = l .page < 2 ^ 44

@@ -11,10 +11,11 @@ ghost use Rattle.causes.specs.Causes.{faultAt};
 ghost use Rattle.causes.specs.declared.Stage.the-variants.{Second};
 ghost use Rattle.paging.specs.Scheme.{levelsOf, rootBitsOf, addressBitsOf, signedOf, legalOf, pageBitsOf, indexOf};
 ghost use Rattle.paging.specs.Purpose.{askedOf, pageFaultOf, accessFaultOf};
-ghost use Rattle.paging.specs.Entry.{leafOf, kindOf, entryOf, permits, ownedBy, allows, mappedBy};
-ghost use Rattle.paging.specs.Levels.{faulted as faultedOf, onLoad, levelOf, levels as levelsFrom};
-ghost use Rattle.paging.specs.Stages.{direct, secondStageOf, entryReach, firstStageOf};
-ghost use Rattle.paging.specs.Within.{Near, Within, Small, Paged};
+ghost use Rattle.paging.specs.Entry.{leafOf, ownedBy};
+ghost use Rattle.paging.specs.Levels.{faulted as faultedOf, levelOf, levels as levelsFrom};
+ghost use Rattle.paging.specs.Stages.{secondStageOf, entryReach, firstStageOf};
+ghost use Rattle.paging.specs.Within.{Within, Small};
+ghost use Rattle.paging.specs.Tests.{soundBits, tableBits, permitBits, leafBits, rawLoad, rawLevels, toStep, toldOf, Tight};
 
 // The page-table schemes (01, "Fixed capabilities").
 pub enum Scheme {
@@ -49,7 +50,7 @@ pub struct Lookup {
     pub user: bool,
 }
 
-// A page-table entry that maps a page.
+// A page-table entry that maps a page, as the definitions speak of it; the code tests its bits in place.
 pub struct Leaf {
     pub r: bool,
     pub w: bool,
@@ -71,6 +72,14 @@ pub enum Entry {
 pub enum Translation {
     To(u64),
     Fault(FaultInfo),
+}
+
+// What an entry leads to, before a fault is given its cause.
+pub enum Raw {
+    Arrive(u64),
+    Next(u64),
+    Faulty,
+    Unread,
 }
 
 // What one level of a walk leads to.
@@ -156,55 +165,50 @@ fn power(k: u64) -> u64
     1 << k
 }
 
-fn leaf_of(e: u64) -> Leaf
-    ensures { λ r. ⌜ r ≡ leafOf e ⌝ }
+fn sound(e: u64) -> bool
+    ensures { λ r. ⌜ r ≡ soundBits e ⌝ }
 {
-    Leaf {
-        r: memory::bit(e, 1),
-        w: memory::bit(e, 2),
-        x: memory::bit(e, 3),
-        u: memory::bit(e, 4),
-        a: memory::bit(e, 6),
-        d: memory::bit(e, 7),
-        page: e / 1024 % 17592186044416,
+    memory::bit(e, 0) & (e / 18014398509481984 % 1024 == 0)
+}
+
+// A non-leaf. Tests joined by `&` become one mask and one compare.
+fn is_table(e: u64) -> bool
+    ensures { λ r. ⌜ r ≡ tableBits e ⌝ }
+{
+    sound(e)
+        & !memory::bit(e, 1)
+        & !memory::bit(e, 2)
+        & !memory::bit(e, 3)
+        & !memory::bit(e, 4)
+        & !memory::bit(e, 6)
+        & !memory::bit(e, 7)
+}
+
+fn owned(user: bool, e: u64) -> bool
+    ensures { λ r. ⌜ r ≡ ownedBy user (leafOf e) ⌝ }
+{
+    if user {
+        memory::bit(e, 4)
+    } else {
+        !memory::bit(e, 4)
     }
 }
 
-// What a valid entry with no reserved bit says.
-fn kind(l: Leaf) -> Entry
-    requires { ⌜ l .page < 2 ^ 44 ⌝ }
-    ensures { λ r. ⌜ (r ≡ kindOf (l .page) l) × Paged r ⌝ }
+fn permitted(x: Access, e: u64) -> bool
+    ensures { λ r. ⌜ r ≡ permitBits x e ⌝ }
 {
-    if l.r {
-        return Entry::Maps(l);
+    match x {
+        Access::Read => memory::bit(e, 1),
+        Access::Write => memory::bit(e, 1) & memory::bit(e, 2) & memory::bit(e, 7),
+        Access::Execute => memory::bit(e, 3) & (memory::bit(e, 1) | !memory::bit(e, 2)),
     }
-    if l.w {
-        return Entry::Faulty;
-    }
-    if l.x {
-        return Entry::Maps(l);
-    }
-    if l.u {
-        return Entry::Faulty;
-    }
-    if l.a {
-        return Entry::Faulty;
-    }
-    if l.d {
-        return Entry::Faulty;
-    }
-    Entry::Table(l.page)
 }
 
-fn decode(e: u64) -> Entry
-    ensures { λ r. ⌜ (r ≡ entryOf e) × Paged r ⌝ }
+// A leaf whose page permits an access.
+fn is_leaf(e: u64, user: bool, x: Access) -> bool
+    ensures { λ r. ⌜ r ≡ leafBits e user x ⌝ }
 {
-    if memory::bit(e, 0) {
-        if e / 18014398509481984 % 1024 == 0 {
-            return kind(leaf_of(e));
-        }
-    }
-    Entry::Faulty
+    sound(e) & memory::bit(e, 6) & owned(user, e) & permitted(x, e)
 }
 
 // The access that the page must permit: an implicit access is a read.
@@ -259,36 +263,6 @@ fn access_fault(p: Purpose, x: Access) -> FaultInfo
     }
 }
 
-fn permitted(x: Access, l: Leaf) -> bool
-    ensures { λ r. ⌜ r ≡ permits x l ⌝ }
-{
-    match x {
-        Access::Read => l.r,
-        Access::Write => if l.w { l.d } else { false },
-        Access::Execute => l.x,
-    }
-}
-
-fn owned(user: bool, l: Leaf) -> bool
-    ensures { λ r. ⌜ r ≡ ownedBy user l ⌝ }
-{
-    if user { l.u } else { !l.u }
-}
-
-fn allowed(q: Lookup, l: Leaf) -> bool
-    ensures { λ r. ⌜ r ≡ allows q l ⌝ }
-{
-    let p = q.purpose;
-    let x = q.access;
-    if l.a {
-        if owned(q.user, l) {
-            return permitted(asked(p, x), l);
-        }
-        return false;
-    }
-    false
-}
-
 fn faulted(q: Lookup) -> Translation
     ensures { λ r. ⌜ r ≡ faultedOf q ⌝ }
 {
@@ -305,64 +279,77 @@ fn offset(a: u64, n: u64) -> u64
     a % power(Scheme::PAGE_BITS + Scheme::INDEX_BITS * n)
 }
 
-// The address that a leaf of level n gives.
-fn mapped(q: Lookup, n: u64, l: Leaf) -> Translation
-    requires { ⌜ (n < 5) × (l .page < 2 ^ 44) ⌝ }
-    ensures { λ r. ⌜ (r ≡ mappedBy q n l) × Near r ⌝ }
-{
-    if allowed(q, l) {
-        if l.page % power(Scheme::INDEX_BITS * n) == 0 {
-            return Translation::To(l.page * 4096 + offset(q.address, n));
-        }
-        return faulted(q);
-    }
-    faulted(q)
-}
-
 // What a loaded entry of level n leads to.
-fn read_entry(q: Lookup, n: u64, v: Load) -> Step
+fn read_entry(x: Access, user: bool, a: u64, n: u64, v: Load) -> Raw
     requires { ⌜ n < 5 ⌝ }
-    ensures { λ r. ⌜ (r ≡ onLoad q n v) × Small r ⌝ }
+    ensures { λ r. ⌜ (r ≡ rawLoad x user a n v) × Tight r ⌝ }
 {
-    let p = q.purpose;
-    let x = q.access;
     let Load::Value(e) = v else {
-        return Step::Stop(Translation::Fault(access_fault(p, x)));
+        return Raw::Unread;
     };
-    match decode(e) {
-        Entry::Faulty => Step::Stop(faulted(q)),
-        Entry::Maps(l) => Step::Stop(mapped(q, n, l)),
-        Entry::Table(page) => Step::Next(page),
+    let page = e / 1024 % 17592186044416;
+    if is_table(e) {
+        return Raw::Next(page);
     }
+    if is_leaf(e, user, x) {
+        if page % power(Scheme::INDEX_BITS * n) == 0 {
+            return Raw::Arrive(page * 4096 + offset(a, n));
+        }
+        return Raw::Faulty;
+    }
+    Raw::Faulty
 }
 
-// One level of a table whose entries lie where their addresses say.
-fn level(s: Scheme, q: Lookup, start: u64, window: &[u8], n: u64, table: u64) -> Step
-    requires { ⌜ (n < 5) × (table < 2 ^ 44) ⌝ }
-    ensures { λ r. ⌜ (r ≡ run (memory start (now (window .entry))) (levelOf s q direct n table)) × Small r ⌝ }
-{
-    let at = table * 4096 + 8 * s.index(q.address, n);
-    read_entry(q, n, memory::load64(start, window, at))
-}
-
-fn descend(s: Scheme, q: Lookup, start: u64, window: &[u8], root: u64) -> Translation
+// The walk of a table whose entries lie where their addresses say. Causes come after it.
+fn descend(s: Scheme, x: Access, user: bool, a: u64, start: u64, window: &[u8], root: u64) -> Raw
     requires { ⌜ root < 2 ^ 44 ⌝ }
-    ensures { λ r. ⌜ (r ≡ run (memory start (now (window .entry))) (levelsFrom s q direct (levelsOf s) root)) × Near r ⌝ }
+    ensures { λ r. ⌜ (r ≡ run (memory start (now (window .entry))) (rawLevels s x user a (levelsOf s) root)) × Tight r ⌝ }
 {
     let mut left = s.levels();
     let mut table = root;
     while 0 < left {
         left -= 1;
-        match level(s, q, start, window, left, table) {
-            Step::Stop(t) => {
-                return t;
-            }
-            Step::Next(next) => {
+        let at = table * 4096 + 8 * s.index(a, left);
+        match read_entry(x, user, a, left, memory::load64(start, window, at)) {
+            Raw::Next(next) => {
                 table = next;
+            }
+            Raw::Arrive(p) => {
+                return Raw::Arrive(p);
+            }
+            Raw::Faulty => {
+                return Raw::Faulty;
+            }
+            Raw::Unread => {
+                return Raw::Unread;
             }
         }
     }
-    faulted(q)
+    Raw::Faulty
+}
+
+// The end of a walk, with its cause.
+fn told(p: Purpose, x: Access, r: Raw) -> Translation
+    ensures { λ t. ⌜ t ≡ toldOf p x r ⌝ }
+{
+    match r {
+        Raw::Arrive(a) => Translation::To(a),
+        Raw::Next(_) => Translation::Fault(page_fault(p, x)),
+        Raw::Faulty => Translation::Fault(page_fault(p, x)),
+        Raw::Unread => Translation::Fault(access_fault(p, x)),
+    }
+}
+
+// A level of a walk, with its cause.
+fn stepped(p: Purpose, x: Access, r: Raw) -> Step
+    ensures { λ t. ⌜ t ≡ toStep p x r ⌝ }
+{
+    match r {
+        Raw::Arrive(a) => Step::Stop(Translation::To(a)),
+        Raw::Next(table) => Step::Next(table),
+        Raw::Faulty => Step::Stop(Translation::Fault(page_fault(p, x))),
+        Raw::Unread => Step::Stop(Translation::Fault(access_fault(p, x))),
+    }
 }
 
 // A guest address, by the second stage.
@@ -379,16 +366,14 @@ pub fn second_stage(
 {
     if g.on {
         let s = g.scheme;
-        let q = Lookup {
-            address: a,
-            access: x,
-            purpose: p,
-            user: true,
-        };
         if s.legal(a) {
-            return descend(s, q, start, window, g.root);
+            return told(
+                p,
+                x,
+                descend(s, asked(p, x), true, a, start, window, g.root),
+            );
         }
-        return faulted(q);
+        return Translation::Fault(page_fault(p, x));
     }
     Translation::To(a)
 }
@@ -412,7 +397,13 @@ fn guest_level(
     let Translation::To(p) = place else {
         return Step::Stop(place);
     };
-    read_entry(q, n, memory::load64(start, window, p))
+    let o = q.purpose;
+    let k = asked(o, x);
+    stepped(
+        o,
+        x,
+        read_entry(k, q.user, q.address, n, memory::load64(start, window, p)),
+    )
 }
 
 fn guest_descend(

@@ -1,55 +1,79 @@
 -- `descend` meets its contract. The invariant: what is left of the walk gives what the whole gives; the measure is the levels left. Assumes nothing.
-use Rattle.paging.proofs.Turns.{walk-ways}
+use Rattle.paging.proofs.Turns.{raw-ways}
 use borrow.Author.Needs.{needs}
 use Prim.Native.Nat.{_<_, _^_}
 use mathlib.Core.Path.{_≡_}
 use Rattle.memory.specs.Window.{memory}
 use Rattle.memory.specs.Walk.{run}
 use Rattle.paging.specs.Scheme.{levelsOf}
-use Rattle.paging.specs.Levels.{levels}
-use Rattle.paging.specs.Stages.{direct}
+use Rattle.paging.specs.Tests.{rawLevels}
 use Rattle.paging.proofs.descend.Statement.{statement}
 use Rattle.paging.proofs.descend.Tie as tie
 
 abbrev Inv-loop : tie.InvT-loop
-Inv-loop s q start window root left₀ table₀ left table =
-    (left < 6) × (table < 2 ^ 44) × (run (memory start window) (levels s q direct left table) ≡ run (memory start window) (levels s q direct (levelsOf s) root))
+Inv-loop s x user a start window root left₀ table₀ left table =
+    (left < 6) × (table < 2 ^ 44)
+    × (run (memory start window) (rawLevels s x user a left table) ≡ run (memory start window) (rawLevels s x user a (levelsOf s) root))
 
 abbrev μ-loop : tie.MeasureT-loop
-μ-loop s q start window root left₀ table₀ left table = left
+μ-loop s x user a start window root left₀ table₀ left table = left
 
 levels-requires : tie.Need-levels-requires Inv-loop μ-loop
-levels-requires c κs = search (walk-ways, needs)
+levels-requires c κs = search (raw-ways, needs)
 
 loop-holds : tie.Need-loop-holds Inv-loop μ-loop
-loop-holds c = search (walk-ways, needs)
+loop-holds c = search (raw-ways, needs)
 
 sub-left : tie.Need-sub-left Inv-loop μ-loop
-sub-left c = search (walk-ways, needs)
+sub-left c = search (raw-ways, needs)
 
-level-requires : tie.Need-level-requires Inv-loop μ-loop
-level-requires c κs = search (walk-ways, needs)
+mul-at : tie.Need-mul-at Inv-loop μ-loop
+mul-at c = search (raw-ways, needs)
 
-enum-known-t : tie.Need-enum-known-t Inv-loop μ-loop
-enum-known-t c = search (walk-ways, needs)
+index-requires : tie.Need-index-requires Inv-loop μ-loop
+index-requires c κs = search (raw-ways, needs)
 
-returns : tie.Need-returns Inv-loop μ-loop
-returns c = search (walk-ways, needs)
+mul-at-2 : tie.Need-mul-at-2 Inv-loop μ-loop
+mul-at-2 c = search (raw-ways, needs)
+
+add-at : tie.Need-add-at Inv-loop μ-loop
+add-at c = search (raw-ways, needs)
+
+load64-requires : tie.Need-load64-requires Inv-loop μ-loop
+load64-requires c κs = search (raw-ways, needs)
+
+read-entry-requires : tie.Need-read-entry-requires Inv-loop μ-loop
+read-entry-requires c κs = search (raw-ways, needs)
 
 enum-known-next : tie.Need-enum-known-next Inv-loop μ-loop
-enum-known-next c = search (walk-ways, needs)
+enum-known-next c = search (raw-ways, needs)
 
 loop-less : tie.Need-loop-less Inv-loop μ-loop
-loop-less c = search (walk-ways, needs)
+loop-less c = search (raw-ways, needs)
 
 loop-again : tie.Need-loop-again Inv-loop μ-loop
-loop-again c = search (walk-ways, needs)
+loop-again c = search (raw-ways, needs)
 
-faulted-requires : tie.Need-faulted-requires Inv-loop μ-loop
-faulted-requires c κs = search (walk-ways, needs)
+enum-known-p : tie.Need-enum-known-p Inv-loop μ-loop
+enum-known-p c = search (raw-ways, needs)
+
+returns : tie.Need-returns Inv-loop μ-loop
+returns c = search (raw-ways, needs)
+
+enum-told : tie.Need-enum-told Inv-loop μ-loop
+enum-told c = search (raw-ways, needs)
 
 returns-2 : tie.Need-returns-2 Inv-loop μ-loop
-returns-2 c = search (walk-ways, needs)
+returns-2 c = search (raw-ways, needs)
+
+enum-told-2 : tie.Need-enum-told-2 Inv-loop μ-loop
+enum-told-2 c = search (raw-ways, needs)
+
+returns-3 : tie.Need-returns-3 Inv-loop μ-loop
+returns-3 c = search (raw-ways, needs)
+
+returns-4 : tie.Need-returns-4 Inv-loop μ-loop
+returns-4 c = search (raw-ways, needs)
 
 pub descend-spec : {M : Type 1} → statement M
 descend-spec =
@@ -60,11 +84,19 @@ descend-spec =
     levels-requires
     loop-holds
     sub-left
-    level-requires
-    enum-known-t
-    returns
+    mul-at
+    index-requires
+    mul-at-2
+    add-at
+    load64-requires
+    read-entry-requires
     enum-known-next
     loop-less
     loop-again
-    faulted-requires
-    returns-2)
+    enum-known-p
+    returns
+    enum-told
+    returns-2
+    enum-told-2
+    returns-3
+    returns-4)

@@ -28,11 +28,17 @@ enum-told c = search needs
 returns : tie.Need-returns
 returns c = search (level-ways, needs)
 
+asked-requires : tie.Need-asked-requires
+asked-requires c κs = search needs
+
 load64-requires : tie.Need-load64-requires
 load64-requires c κs = search needs
 
 read-entry-requires : tie.Need-read-entry-requires
 read-entry-requires c κs = search needs
+
+stepped-requires : tie.Need-stepped-requires
+stepped-requires c κs = search needs
 
 returns-2 : tie.Need-returns-2
 returns-2 c = search (level-ways, needs)
@@ -49,6 +55,8 @@ guest-level-spec =
     enum-known-place
     enum-told
     returns
+    asked-requires
     load64-requires
     read-entry-requires
+    stepped-requires
     returns-2)

@@ -10,32 +10,35 @@ enum-known-v c = search needs
 enum-told : tie.Need-enum-told
 enum-told c = search needs
 
-access-fault-requires : tie.Need-access-fault-requires
-access-fault-requires c κs = search needs
-
 returns : tie.Need-returns
 returns c = search (entry-ways, needs)
 
-decode-requires : tie.Need-decode-requires
-decode-requires c κs = search needs
-
-enum-told-2 : tie.Need-enum-told-2
-enum-told-2 c = search needs
-
-faulted-requires : tie.Need-faulted-requires
-faulted-requires c κs = search needs
-
-enum-known-l : tie.Need-enum-known-l
-enum-known-l c = search needs
-
-mapped-requires : tie.Need-mapped-requires
-mapped-requires c κs = search (entry-ways, needs)
-
-enum-known-page : tie.Need-enum-known-page
-enum-known-page c = search needs
+is-table-requires : tie.Need-is-table-requires
+is-table-requires c κs = search needs
 
 returns-2 : tie.Need-returns-2
 returns-2 c = search (entry-ways, needs)
+
+is-leaf-requires : tie.Need-is-leaf-requires
+is-leaf-requires c κs = search needs
+
+mul-power : tie.Need-mul-power
+mul-power c = search needs
+
+power-requires : tie.Need-power-requires
+power-requires c κs = search needs
+
+rem-if3 : tie.Need-rem-if3
+rem-if3 c = search needs
+
+mul-t15 : tie.Need-mul-t15
+mul-t15 c = search needs
+
+offset-requires : tie.Need-offset-requires
+offset-requires c κs = search needs
+
+add-t17 : tie.Need-add-t17
+add-t17 c = search needs
 
 returns-3 : tie.Need-returns-3
 returns-3 c = search (entry-ways, needs)
@@ -43,20 +46,25 @@ returns-3 c = search (entry-ways, needs)
 returns-4 : tie.Need-returns-4
 returns-4 c = search (entry-ways, needs)
 
+returns-5 : tie.Need-returns-5
+returns-5 c = search (entry-ways, needs)
+
 pub read-entry-spec : {M : Type 1} → statement M
 read-entry-spec =
     tie.close
     (tie.spec
     enum-known-v
     enum-told
-    access-fault-requires
     returns
-    decode-requires
-    enum-told-2
-    faulted-requires
-    enum-known-l
-    mapped-requires
-    enum-known-page
+    is-table-requires
     returns-2
+    is-leaf-requires
+    mul-power
+    power-requires
+    rem-if3
+    mul-t15
+    offset-requires
+    add-t17
     returns-3
-    returns-4)
+    returns-4
+    returns-5)

@@ -7,14 +7,20 @@ use Rattle.paging.proofs.second_stage.Tie as tie
 legal-requires : tie.Need-legal-requires
 legal-requires c κs = search needs
 
+asked-requires : tie.Need-asked-requires
+asked-requires c κs = search needs
+
 descend-requires : tie.Need-descend-requires
 descend-requires c κs = search needs
+
+told-requires : tie.Need-told-requires
+told-requires c κs = search needs
 
 returns : tie.Need-returns
 returns c = search (second-ways, needs)
 
-faulted-requires : tie.Need-faulted-requires
-faulted-requires c κs = search needs
+page-fault-requires : tie.Need-page-fault-requires
+page-fault-requires c κs = search needs
 
 returns-2 : tie.Need-returns-2
 returns-2 c = search (second-ways, needs)
@@ -25,4 +31,12 @@ returns-3 c = search (second-ways, needs)
 pub second-stage-spec : {M : Type 1} → statement M
 second-stage-spec =
     tie.close
-    (tie.spec legal-requires descend-requires returns faulted-requires returns-2 returns-3)
+    (tie.spec
+    legal-requires
+    asked-requires
+    descend-requires
+    told-requires
+    returns
+    page-fault-requires
+    returns-2
+    returns-3)

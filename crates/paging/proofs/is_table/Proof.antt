@@ -1,7 +1,11 @@
--- `leaf_of` meets its contract: each field is what its call ensures. Assumes nothing.
+-- `is_table` meets its contract: one law for each return. Assumes nothing.
+use Rattle.paging.proofs.Entries.{bit-ways}
 use borrow.Author.Needs.{needs}
-use Rattle.paging.proofs.leaf_of.Statement.{statement}
-use Rattle.paging.proofs.leaf_of.Tie as tie
+use Rattle.paging.proofs.is_table.Statement.{statement}
+use Rattle.paging.proofs.is_table.Tie as tie
+
+sound-requires : tie.Need-sound-requires
+sound-requires c κs = search needs
 
 bit-requires : tie.Need-bit-requires
 bit-requires c κs = search needs
@@ -22,12 +26,13 @@ bit-requires-6 : tie.Need-bit-requires-6
 bit-requires-6 c κs = search needs
 
 returns : tie.Need-returns
-returns c = cc
+returns c = search (bit-ways, needs)
 
-pub leaf-of-spec : {M : Type 1} → statement M
-leaf-of-spec =
+pub is-table-spec : {M : Type 1} → statement M
+is-table-spec =
     tie.close
     (tie.spec
+    sound-requires
     bit-requires
     bit-requires-2
     bit-requires-3

@@ -1,0 +1,14 @@
+-- `sound` meets its contract: one law for each return. Assumes nothing.
+use Rattle.paging.proofs.Entries.{bit-ways}
+use borrow.Author.Needs.{needs}
+use Rattle.paging.proofs.sound.Statement.{statement}
+use Rattle.paging.proofs.sound.Tie as tie
+
+bit-requires : tie.Need-bit-requires
+bit-requires c κs = search needs
+
+returns : tie.Need-returns
+returns c = search (bit-ways, needs)
+
+pub sound-spec : {M : Type 1} → statement M
+sound-spec = tie.close (tie.spec bit-requires returns)

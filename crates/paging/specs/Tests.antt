@@ -1,0 +1,84 @@
+-- The walk as the code makes it: an entry by tests of its bits joined by `&`, and steps that carry no cause. Nothing that a reader has to believe: `paging.Tested.tested` and `paging.Tested.raw-walk` show that it says what `Entry` and `Levels` say.
+use Prim.Native.Nat.{ℕ, zero, suc, _+_, _*_, _/_, _%_, _^_, _<_}
+use mathlib.Core.Bool.{Bool, true, false, not, _&&_, _||_}
+use lib.Dec.{eqb}
+use Rattle.memory.specs.Choice.{pick}
+use Rattle.memory.specs.Bits.{bit}
+use Rattle.memory.specs.declared.Load.{Load}
+use Rattle.memory.specs.declared.Load.the-variants.{Value, Violation}
+use Rattle.memory.specs.Walk.{Walk, done, load}
+use Rattle.causes.specs.declared.Access.{Access}
+use Rattle.causes.specs.declared.Access.the-variants.{Read, Write, Execute}
+use Rattle.paging.specs.declared.Scheme.{Scheme}
+use Rattle.paging.specs.declared.Purpose.{Purpose}
+use Rattle.paging.specs.declared.Translation.{Translation}
+use Rattle.paging.specs.declared.Translation.the-variants.{To, Fault}
+use Rattle.paging.specs.declared.Step.{Step}
+use Rattle.paging.specs.declared.Step.the-variants.{Stop}
+use Rattle.paging.specs.declared.Raw.{Raw}
+use Rattle.paging.specs.declared.Raw.the-variants.{Arrive, Next, Faulty, Unread}
+use Rattle.paging.specs.Scheme.{pageBitsOf, indexOf}
+use Rattle.paging.specs.Purpose.{pageFaultOf, accessFaultOf}
+use Rattle.paging.specs.Entry.{pageOf, leafOf, ownedBy}
+
+-- V = 1, and none of bits 63:54
+abbrev pub soundBits : ℕ → Bool
+soundBits e = bit e 0 && eqb (e / 18014398509481984 % 1024) 0
+
+-- a non-leaf: no R, W, X, U, A, D
+unfoldable pub tableBits : ℕ → Bool
+tableBits e = soundBits e && not (bit e 1) && not (bit e 2) && not (bit e 3) && not (bit e 4) && not (bit e 6) && not (bit e 7)
+
+-- a leaf that permits an access, by R, W, X and D
+abbrev pub permitOf : Access → Bool → Bool → Bool → Bool → Bool
+permitOf Read r w x d = r
+permitOf Write r w x d = r && w && d
+permitOf Execute r w x d = x && (r || not w)
+
+abbrev pub permitBits : Access → ℕ → Bool
+permitBits x e = permitOf x (bit e 1) (bit e 2) (bit e 3) (bit e 7)
+
+unfoldable pub leafBits : ℕ → Bool → Access → Bool
+leafBits e user x = soundBits e && bit e 6 && ownedBy user (leafOf e) && permitBits x e
+
+-- what a loaded entry of level n leads to, where the page must permit x
+unfoldable pub rawLoad : Access → Bool → ℕ → ℕ → Load → Raw
+rawLoad x user a n Violation = Unread
+rawLoad x user a n (Value e) =
+    pick (tableBits e)
+    (Next (pageOf e))
+    (pick (leafBits e user x && eqb (pageOf e % 2 ^ (9 * n)) 0) (Arrive (pageOf e * 4096 + a % 2 ^ pageBitsOf n)) Faulty)
+
+-- with its cause
+abbrev pub toStep : Purpose → Access → Raw → Step
+toStep p x (Arrive a) = Stop (To a)
+toStep p x (Next table) = Step.Next table
+toStep p x Faulty = Stop (Fault (pageFaultOf p x))
+toStep p x Unread = Stop (Fault (accessFaultOf p x))
+
+-- at the end of a walk, where a non-leaf is a fault
+abbrev pub toldOf : Purpose → Access → Raw → Translation
+toldOf p x (Arrive a) = To a
+toldOf p x (Next table) = Fault (pageFaultOf p x)
+toldOf p x Faulty = Fault (pageFaultOf p x)
+toldOf p x Unread = Fault (accessFaultOf p x)
+
+abbrev pub onRaw : (ℕ → Walk Raw) → Raw → Walk Raw
+onRaw next (Next table) = next table
+onRaw next (Arrive a) = done (Arrive a)
+onRaw next Faulty = done Faulty
+onRaw next Unread = done Unread
+
+-- a walk of entries that lie where their addresses say
+module _ (s : Scheme) (x : Access) (user : Bool) (a : ℕ) where
+  unfoldable pub rawLevels : ℕ → ℕ → Walk Raw
+  unfolding rawLoad
+  rawLevels zero table = done Faulty
+  rawLevels (suc n) table = load (table * 4096 + 8 * indexOf s a n) (λ v. onRaw (rawLevels n) (rawLoad x user a n v))
+
+-- bounds that sums need
+abbrev pub Tight : Raw → Type 0
+Tight (Arrive a) = a < 2 ^ 57
+Tight (Next table) = table < 2 ^ 44
+Tight Faulty = Unit {0}
+Tight Unread = Unit {0}
