@@ -1,13 +1,12 @@
 -- The face, by the tests that the code makes. Assumes nothing.
 use Prim.Native.Nat.{ℕ, zero, suc, _+_, _*_, _%_, _<_, _≤_}
-use mathlib.Core.Bool.{Bool, true, false}
 use mathlib.Core.List.{List}
 use mathlib.Core.Path.{_≡_, refl, sym, ap, _∙_}
-use lib.Dec.{leb, ltb}
+use lib.Dec.{leb}
 use native.Mathlib.Numerals.{add-one}
 use native.Mathlib.Omega.{arith}
 use lib.ListN.{length, set, getD, length-set}
-use borrow.Author.Tests.{lt-ltb, le-ltb, eq-eqb, ne-eqb}
+use borrow.Author.Tests.{lt-ltb, le-ltb, ne-eqb}
 use Rattle.causes.specs.declared.Access.{Access}
 use Rattle.causes.specs.declared.Stage.{Stage}
 use Rattle.causes.specs.declared.FaultInfo.{FaultInfo}
@@ -24,7 +23,7 @@ use Rattle.iommu.specs.Answers.{numbersOf}
 use Rattle.iommu.specs.Request.{requestOf, afterRequest}
 use Rattle.capi.specs.declared.Chosen.{Chosen}
 use Rattle.capi.specs.declared.Chosen.the-variants.{Known, Unknown}
-use Rattle.capi.specs.Face.{chosenOf, processOf, supervisorOf, stageOf, withAnswer, settings, asked, chosenFace, chosenBytes, requestFace, afterFace, status, fitting, noPair, withPairs, withReport}
+use Rattle.capi.specs.Face.{chosenOf, processOf, stageOf, withAnswer, chosenFace, chosenBytes, requestFace, afterFace, status, fitting, noPair, withPairs, withReport}
 
 pub process-given : (flags p : ℕ) → flags % 2 ≡ 1 → Given p ≡ processOf flags p
 process-given flags p h = simp h

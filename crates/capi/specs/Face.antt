@@ -1,7 +1,7 @@
 -- The face for C: numbers for what the routines take and answer (D25). Nothing of a request's meaning stands here.
 use Prim.Native.Nat.{ℕ, zero, suc, _+_, _*_, _%_}
-use mathlib.Core.Bool.{Bool, true, false}
-use mathlib.Core.List.{List, [], _∷_}
+use mathlib.Core.Bool.{Bool}
+use mathlib.Core.List.{List}
 use lib.Dec.{eqb, ltb, leb}
 use lib.ListN.{length, set, getD}
 use Rattle.memory.specs.Choice.{pick}

@@ -1,6 +1,6 @@
 -- The device directory and the device context (003, "Process to locate the Device-context").
 use Prim.Native.Nat.{ℕ, _+_, _-_, _*_, _%_}
-use mathlib.Core.Bool.{Bool, _&&_, not, _||_}
+use mathlib.Core.Bool.{Bool, _&&_, not}
 use mathlib.Core.List.{[], _∷_}
 use lib.Dec.{eqb, leb}
 use Rattle.memory.specs.Choice.{pick, any}

@@ -1,20 +1,19 @@
 -- The checks before the walk, by the tests that the code makes. Assumes nothing.
-use Prim.Native.Nat.{ℕ, _+_, _-_, _*_, _/_, _%_, _^_, _<_, _≤_}
-use mathlib.Core.Bool.{Bool, true, false, _&&_, _||_, not}
+use Prim.Native.Nat.{ℕ, _+_, _-_, _%_, _^_, _<_, _≤_}
+use mathlib.Core.Bool.{Bool, true, false, _&&_, _||_}
 use mathlib.Core.Path.{_≡_, refl, sym, ap, _∙_}
 use native.Mathlib.Omega.{arith}
-use lib.Dec.{eqb, leb, ltb}
-use borrow.Author.Tests.{eq-eqb, ne-eqb, lt-ltb, le-ltb, ltb-true, ltb-false, le-leb, lt-leb, leb-true, leb-false}
+use lib.Dec.{leb, ltb}
+use borrow.Author.Tests.{ne-eqb, lt-ltb, le-ltb, ltb-false, le-leb, lt-leb, leb-false}
 use Rattle.memory.proofs.Choices.{ltb-same}
 use Rattle.directory.specs.declared.ProcessId.{ProcessId}
-use Rattle.directory.specs.declared.ProcessId.the-variants.{Absent, Given}
+use Rattle.directory.specs.declared.ProcessId.the-variants.{Given}
 use Rattle.iommu.specs.declared.Settings.{Settings}
 use Rattle.iommu.specs.declared.DeviceRequest.{DeviceRequest}
 use Rattle.iommu.specs.declared.Answer.{Answer}
 use Rattle.iommu.specs.declared.Numbers.{Numbers}
 use Rattle.iommu.specs.Answers.{numbersOf}
 use Rattle.iommu.specs.Refusals.{badWindow, badDirectory, badProcess, absent, badLength, requestRefusal}
-use Rattle.iommu.specs.Bounds.{Accepted}
 
 -- 2001
 module _ (start len : ℕ) where

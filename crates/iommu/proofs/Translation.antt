@@ -1,11 +1,10 @@
 -- The walk of a request, by the ways through each of its steps. Assumes nothing.
 use Prim.Native.Nat.{ℕ, _-_, _<_, _≤_, _^_}
 use mathlib.Core.Bool.{Bool, true, false, not, _||_}
-use mathlib.Core.Path.{_≡_, refl, sym, ap, _∙_, subst}
-use native.Mathlib.Omega.{arith}
-use borrow.Author.Tests.{lt-ltb, le-ltb, eq-eqb, ne-eqb}
+use mathlib.Core.Path.{_≡_, sym, ap, _∙_, subst}
+use borrow.Author.Tests.{lt-ltb, le-ltb, ne-eqb}
 use Rattle.memory.specs.declared.Load.{Load}
-use Rattle.memory.specs.Walk.{Walk, done, run}
+use Rattle.memory.specs.Walk.{done, run}
 use Rattle.memory.proofs.Walks.{then, at}
 use Rattle.causes.specs.Causes.{accessFault, faultAt, disallowed}
 use Rattle.causes.specs.declared.Access.{Access}
@@ -32,8 +31,8 @@ use Rattle.message.specs.declared.Message.{Message}
 use Rattle.iommu.specs.declared.Settings.{Settings}
 use Rattle.iommu.specs.declared.DeviceRequest.{DeviceRequest}
 use Rattle.iommu.specs.declared.Outcome.{Outcome}
-use Rattle.iommu.specs.declared.Outcome.the-variants.{Translated, Redirected, Recorded, Fault}
-use Rattle.iommu.specs.Translate.{untranslated, onMessage, onSecond, isMessage, guestOf, onFirst, stagesOf, onInfo, onDevice, levelsOf, directoryOf, translateOf}
+use Rattle.iommu.specs.declared.Outcome.the-variants.{Translated, Fault}
+use Rattle.iommu.specs.Translate.{untranslated, onMessage, onSecond, isMessage, guestOf, onFirst, stagesOf, onInfo, onDevice, directoryOf, translateOf}
 
 -- an address that no stage translates
 pub passed-low : (x : Access) (a : ℕ) → a < 72057594037927936 → Translated a ≡ untranslated x a

@@ -1,7 +1,7 @@
 -- Refusals, each list in 01's order ("Given exactly when (checked in this order)"). Sums are of natural numbers: nothing wraps.
 use Prim.Native.Nat.{ℕ, _+_, _%_, _^_}
 use mathlib.Core.Bool.{Bool, true, false, _&&_, _||_, not}
-use mathlib.Core.List.{List, [], _∷_}
+use mathlib.Core.List.{[], _∷_}
 use lib.Dec.{eqb, leb, ltb}
 use Rattle.memory.specs.Choice.{Check, firstBad}
 use Rattle.directory.specs.declared.ProcessId.{ProcessId}

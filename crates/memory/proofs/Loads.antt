@@ -1,13 +1,12 @@
 -- The cases of `memory`, by the tests that a load makes. Assumes nothing.
 use Prim.Native.Nat.{ℕ, _+_, _-_, _≤_, _<_}
 use mathlib.Core.List.{List}
-use mathlib.Core.Path.{_≡_, refl, ap, _∙_}
+use mathlib.Core.Path.{_≡_, ap, _∙_}
 use native.Mathlib.Omega.{arith}
 use borrow.Author.Tests.{le-leb, lt-leb}
 use lib.ListN.{length}
 use Rattle.memory.specs.Window.{doubleword, memory}
 use Rattle.memory.specs.declared.Load.the-variants.{Value, Violation}
-use Rattle.memory.proofs.Choices.{pick-same}
 
 pub memory-low : (start a : ℕ) (s : List ℕ) → a < start → Violation ≡ memory start s a
 unfolding memory

@@ -1,6 +1,6 @@
 -- The message table and its entries (000, 8.1.5; 003, "Process to translate addresses of MSIs", steps 6 to 15; 01, "Messages").
 use Prim.Native.Nat.{ℕ, _+_, _*_, _%_, _^_, max}
-use mathlib.Core.Bool.{Bool, not}
+use mathlib.Core.Bool.{Bool}
 use mathlib.Core.List.{[], _∷_}
 use lib.Count.{ones}
 use lib.Dec.{eqb}

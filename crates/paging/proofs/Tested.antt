@@ -1,13 +1,13 @@
 -- The tests of an entry's bits, and the steps without causes, say what the definitions say. Assumes nothing.
 use Prim.Native.Nat.{ℕ, zero, suc, _+_, _*_, _/_, _%_, _^_}
-use mathlib.Core.Bool.{Bool, true, false, not, _&&_, _||_}
-use mathlib.Core.Path.{_≡_, refl, sym, ap, _∙_}
+use mathlib.Core.Bool.{Bool, true, false, not, _&&_}
+use mathlib.Core.Path.{_≡_, refl, ap, _∙_}
 use lib.Dec.{eqb}
 use Rattle.memory.specs.Choice.{pick}
 use Rattle.memory.specs.Bits.{bit}
 use Rattle.memory.specs.declared.Load.{Load}
 use Rattle.memory.specs.declared.Load.the-variants.{Value, Violation}
-use Rattle.memory.specs.Walk.{Walk, done, load, run}
+use Rattle.memory.specs.Walk.{Walk, run}
 use Rattle.causes.specs.declared.Access.{Access}
 use Rattle.causes.specs.declared.Access.the-variants.{Read, Write, Execute}
 use Rattle.paging.specs.declared.Scheme.{Scheme}
@@ -17,14 +17,14 @@ use Rattle.paging.specs.declared.Leaf.{Leaf}
 use Rattle.paging.specs.declared.Entry.{Entry}
 use Rattle.paging.specs.declared.Entry.the-variants.{Table, Maps}
 use Rattle.paging.specs.declared.Translation.{Translation}
-use Rattle.paging.specs.declared.Translation.the-variants.{To, Fault}
+use Rattle.paging.specs.declared.Translation.the-variants.{To}
 use Rattle.paging.specs.declared.Step.{Step}
 use Rattle.paging.specs.declared.Step.the-variants.{Stop}
 use Rattle.paging.specs.declared.Raw.{Raw}
 use Rattle.paging.specs.declared.Raw.the-variants.{Arrive, Next, Faulty, Unread}
-use Rattle.paging.specs.Scheme.{pageBitsOf, indexOf}
-use Rattle.paging.specs.Purpose.{askedOf, pageFaultOf, accessFaultOf}
-use Rattle.paging.specs.Entry.{pageOf, leafOf, kindOf, entryOf, permits, ownedBy, allows, mappedBy}
+use Rattle.paging.specs.Scheme.{pageBitsOf}
+use Rattle.paging.specs.Purpose.{askedOf}
+use Rattle.paging.specs.Entry.{pageOf, kindOf, entryOf, permits, ownedBy, allows, mappedBy}
 use Rattle.paging.specs.Levels.{faulted, onEntry, onLoad, onStep, entryAt, levelOf, levels}
 use Rattle.paging.specs.Stages.{direct}
 use Rattle.paging.specs.Tests.{tableBits, permitOf, leafBits, rawLoad, toStep, toldOf, onRaw, rawLevels}

@@ -4,7 +4,7 @@ use mathlib.Core.Bool.{Bool, true, false}
 use mathlib.Core.Path.{_≡_, refl, sym, ap, _∙_, subst}
 use native.Mathlib.Omega.{arith}
 use Rattle.memory.specs.declared.Load.{Load}
-use Rattle.memory.specs.Walk.{Walk, done, load, bind, run}
+use Rattle.memory.specs.Walk.{Walk, done, run}
 use Rattle.memory.proofs.Walks.{then, loads, at}
 use Rattle.causes.specs.declared.Access.{Access}
 use Rattle.causes.specs.declared.FaultInfo.{FaultInfo}
@@ -18,7 +18,7 @@ use Rattle.paging.specs.declared.Step.{Step}
 use Rattle.paging.specs.declared.Step.the-variants.{Stop, Next}
 use Rattle.paging.specs.Scheme.{levelsOf, legalOf, indexOf}
 use Rattle.paging.specs.Levels.{faulted, onLoad, onPlace, onStep, entryAt, levelOf, levels, walkOf}
-use Rattle.paging.specs.Stages.{direct, guestLookup, secondStageOf, entryReach, deviceLookup, firstStageOf}
+use Rattle.paging.specs.Stages.{guestLookup, secondStageOf, entryReach, deviceLookup, firstStageOf}
 use Rattle.paging.specs.Within.{Near, Within, Small}
 use Rattle.paging.specs.declared.Raw.{Raw}
 use Rattle.paging.specs.declared.Raw.the-variants.{Arrive, Unread}

@@ -2,7 +2,7 @@
 use Prim.Native.Nat.{ℕ, _+_, _*_, _%_, _^_}
 use mathlib.Core.Bool.{Bool, true, false, _&&_, not}
 use lib.Dec.{eqb}
-use Rattle.memory.specs.Choice.{pick, any}
+use Rattle.memory.specs.Choice.{pick}
 use Rattle.memory.specs.Bits.{bits, bit, anySet}
 use Rattle.causes.specs.declared.Access.{Access}
 use Rattle.causes.specs.declared.Access.the-variants.{Read, Write, Execute}

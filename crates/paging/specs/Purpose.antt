@@ -1,5 +1,4 @@
 -- What a walk's purpose decides: the permission that it asks of the page, and its faults (01, "The two walks" and the list of stages; D1, D2, D7).
-use Prim.Native.Nat.{ℕ}
 use Rattle.causes.specs.Causes.{accessFault, pageFault, guestPageFault, faultAt}
 use Rattle.causes.specs.declared.Access.{Access}
 use Rattle.causes.specs.declared.Access.the-variants.{Read}

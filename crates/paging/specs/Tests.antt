@@ -1,6 +1,6 @@
 -- The walk as the code makes it: an entry by tests of its bits joined by `&`, and steps that carry no cause. Nothing that a reader has to believe: `paging.Tested.tested` and `paging.Tested.raw-walk` show that it says what `Entry` and `Levels` say.
 use Prim.Native.Nat.{ℕ, zero, suc, _+_, _*_, _/_, _%_, _^_, _<_}
-use mathlib.Core.Bool.{Bool, true, false, not, _&&_, _||_}
+use mathlib.Core.Bool.{Bool, not, _&&_, _||_}
 use lib.Dec.{eqb}
 use Rattle.memory.specs.Choice.{pick}
 use Rattle.memory.specs.Bits.{bit}

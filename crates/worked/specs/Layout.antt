@@ -1,5 +1,5 @@
 -- The memory of the worked cases (01, "Cases"): "Message context: mask 3, pattern 0x80004, first stage Bare".
-use Prim.Native.Nat.{ℕ, _+_, _-_, _*_, _/_, _%_, _^_}
+use Prim.Native.Nat.{ℕ, _-_, _/_, _%_, _^_}
 use mathlib.Core.Bool.{false}
 use mathlib.Core.List.{List, [], _∷_, _++_}
 use lib.ListN.{replicate}

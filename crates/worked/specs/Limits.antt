@@ -1,5 +1,5 @@
 -- The further limits of document 01, and those of its refusals, in one table.
-use Prim.Native.Nat.{ℕ, _+_, _-_, _^_}
+use Prim.Native.Nat.{ℕ, _-_, _^_}
 use mathlib.Core.Bool.{Bool}
 use mathlib.Core.List.{List, [], _∷_}
 use Rattle.paging.specs.Scheme.{legalOf}
