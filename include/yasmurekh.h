@@ -3,8 +3,8 @@
  *
  * All tables and interrupt files lie in one window of memory that the caller
  * lends. No routine keeps state, allocates or blocks; calls on different windows
- * may run at the same time. The report may ask the linker for memset, which
- * freestanding C compilers ask for too; nothing else is called.
+ * may run at the same time. Nothing outside the archive is called, no C library
+ * either.
  *
  * Every routine is total: it answers any numbers and any bytes in the window,
  * and reads and writes nothing but the buffers that it is lent. What the caller

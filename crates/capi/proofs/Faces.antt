@@ -12,8 +12,6 @@ use Rattle.causes.specs.declared.Stage.{Stage}
 use Rattle.causes.specs.declared.FaultInfo.{FaultInfo}
 use Rattle.directory.specs.declared.ProcessId.{ProcessId}
 use Rattle.directory.specs.declared.ProcessId.the-variants.{Absent, Given}
-use Rattle.interrupt_file.specs.declared.Pair.{Pair}
-use Rattle.interrupt_file.specs.declared.Report.{Report}
 use Rattle.iommu.specs.declared.Settings.{Settings}
 use Rattle.iommu.specs.declared.DeviceRequest.{DeviceRequest}
 use Rattle.iommu.specs.declared.Answer.{Answer}
@@ -23,7 +21,7 @@ use Rattle.iommu.specs.Answers.{numbersOf}
 use Rattle.iommu.specs.Request.{requestOf, afterRequest}
 use Rattle.capi.specs.declared.Chosen.{Chosen}
 use Rattle.capi.specs.declared.Chosen.the-variants.{Known, Unknown}
-use Rattle.capi.specs.Face.{chosenOf, processOf, stageOf, withAnswer, chosenFace, chosenBytes, requestFace, afterFace, status, fitting, noPair, withPairs, withReport}
+use Rattle.capi.specs.Face.{chosenOf, processOf, stageOf, withAnswer, chosenFace, chosenBytes, requestFace, afterFace, status, fitting}
 
 pub process-given : (flags p : ℕ) → flags % 2 ≡ 1 → Given p ≡ processOf flags p
 process-given flags p h = simp h
@@ -95,33 +93,3 @@ module _ (n : ℕ) (out : List ℕ) where
   long-answer before x a b h e k = long-changed before (withAnswer out b) x h (e ∙ ap (withAnswer out) k)
 
 pub ruleset buffer-ways = (short-told, long-told, short-kept, long-changed, long-answer)
-
--- the pairs of a report, one after the other
-pub pairs-start : (out : List ℕ) (ps : List Pair) → out ≡ withPairs out ps 0
-unfolding withPairs
-pairs-start out ps = refl
-
-pub pairs-next : (out at : List ℕ) (ps : List Pair) (k : ℕ) → at ≡ withPairs out ps k
-    → set (set at (2 + 2 * k) (getD ps k noPair .pending)) (3 + 2 * k) (getD ps k noPair .enable) ≡ withPairs out ps (k + 1)
-unfolding withPairs
-pairs-next out at ps k e =
-    ap (λ (l : List ℕ). set (set l (2 + 2 * k) (getD ps k noPair .pending)) (3 + 2 * k) (getD ps k noPair .enable)) e
-    ∙ ap (withPairs out ps) (sym (add-one k))
-
-pub pairs-length : (out at : List ℕ) (i j v w : ℕ) → length at ≡ length out → length (set (set at i v) j w) ≡ length out
-pairs-length out at i j v w e = simp length-set e
-
-pub pairs-end : (out at : List ℕ) (ps : List Pair) (k : ℕ) → at ≡ withPairs out ps k → k ≤ 32 → 32 ≤ k → at ≡ withPairs out ps 32
-pairs-end out at ps k e h l = e ∙ ap (withPairs out ps) (omega arith)
-
-pub ruleset pair-ways = (pairs-start, pairs-next, pairs-length, pairs-end)
-
-pub withPairs-length : (out : List ℕ) (ps : List Pair) (k : ℕ) → length (withPairs out ps k) ≡ length out
-unfolding withPairs
-withPairs-length out ps zero = refl
-withPairs-length out ps (suc k) = simp length-set (withPairs-length out ps k)
-
-pub long-report : (n : ℕ) (out before x : List ℕ) (r q : Report) → n ≤ length out → x ≡ withReport out r → r ≡ q → x ≡ fitting n out before (withReport out q)
-long-report n out before x r q h w e = long-changed n out before (withReport out q) x h (w ∙ ap (withReport out) e)
-
-pub ruleset report-ways = (short-told, long-told, short-kept, long-report)

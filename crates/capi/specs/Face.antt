@@ -49,17 +49,16 @@ withAnswer out a =
     set (set (set (set (set out 0 (numbersOf a .kind)) 1 (numbersOf a .first)) 2 (numbersOf a .second)) 3 (numbersOf a .third)) 4 (stageOf a)
 
 -- the words from the third on: the pending and the enable doubleword of each of the first k pairs
+unfoldable pub withPairs : List ℕ → (ℕ → Pair) → ℕ → List ℕ
+withPairs out pair zero = out
+withPairs out pair (suc k) = set (set (withPairs out pair k) (2 + 2 * k) (pair k .pending)) (3 + 2 * k) (pair k .enable)
+
 abbrev pub noPair : Pair
 noPair = record { pending = 0; enable = 0 }
 
-unfoldable pub withPairs : List ℕ → List Pair → ℕ → List ℕ
-withPairs out pairs zero = out
-withPairs out pairs (suc k) =
-    set (set (withPairs out pairs k) (2 + 2 * k) (getD pairs k noPair .pending)) (3 + 2 * k) (getD pairs k noPair .enable)
-
 -- a report in 66 words: refusal, count, pairs
 abbrev pub withReport : List ℕ → Report → List ℕ
-withReport out r = withPairs (set (set out 0 (r .refusal)) 1 (r .count)) (r .pairs) 32
+withReport out r = set (withPairs (set out 0 (r .refusal)) (λ k. getD (r .pairs) k noPair) 32) 1 (r .count)
 
 -- a buffer that is too short is left as it is, and so is the window; the status is then 1, else 0
 unfoldable pub status : ℕ → List ℕ → ℕ

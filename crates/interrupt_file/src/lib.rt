@@ -91,7 +91,7 @@ pub fn take(start: u64, window: &mut [u8], file: u64, n: u64) -> u64
 }
 
 // How many bits of a doubleword are 1.
-fn ones(x: u64) -> u64
+pub fn ones(x: u64) -> u64
     ensures { λ r. ⌜ (r ≡ onesOf x) × (r ≤ 64) ⌝ }
 {
     u64::count_ones(x) as u64

@@ -204,7 +204,7 @@ fn take_refusal(start: u64, len: u64, file: u64, identity: u64) -> u64
 }
 
 // The number of the first check that a report fails, or 0.
-fn report_refusal(start: u64, len: u64, file: u64) -> u64
+pub fn report_refusal(start: u64, len: u64, file: u64) -> u64
     ensures { λ r. ⌜ (r ≡ reportRefusal start len file) × Reportable start len file r ⌝ }
 {
     if bad_window(start, len) {
