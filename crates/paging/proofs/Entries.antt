@@ -1,12 +1,12 @@
 -- A page-table entry and its step, by the tests that the code makes. Assumes nothing.
-use Prim.Native.Nat.{ℕ, _+_, _*_, _/_, _%_, _^_, _<_}
+use Prim.Native.Nat.{ℕ, _+_, _*_, _/_, _%_, _^_, _<_, _≤_}
 use mathlib.Core.Bool.{Bool, true, false, not, _&&_, _||_}
 use mathlib.Core.Path.{_≡_, sym, ap, _∙_}
 use native.Mathlib.Omega.{arith}
 use native.Mathlib.Nat.{mod-lt}
 use lib.Dec.{eqb}
 use lib.Pow.{pow-mono}
-use borrow.Author.Tests.{eq-eqb, ne-eqb}
+use borrow.Author.Tests.{lt-ltb, le-ltb, eq-eqb, ne-eqb}
 use Rattle.memory.specs.Bits.{bit}
 use Rattle.memory.specs.declared.Load.{Load}
 use Rattle.memory.specs.declared.Load.the-variants.{Value, Violation}
@@ -17,13 +17,13 @@ use Rattle.causes.specs.declared.Stage.{Stage}
 use Rattle.causes.specs.declared.FaultInfo.{FaultInfo}
 use Rattle.paging.specs.declared.Purpose.{Purpose}
 use Rattle.paging.specs.declared.Translation.{Translation}
-use Rattle.paging.specs.declared.Translation.the-variants.{Fault}
+use Rattle.paging.specs.declared.Translation.the-variants.{To, Fault}
 use Rattle.paging.specs.declared.Step.{Step}
 use Rattle.paging.specs.declared.Step.the-variants.{Stop}
 use Rattle.paging.specs.declared.Raw.{Raw}
 use Rattle.paging.specs.declared.Raw.the-variants.{Arrive, Unread}
 use Rattle.paging.specs.Purpose.{pageFaultOf, accessFaultOf}
-use Rattle.paging.specs.Tests.{soundBits, tableBits, permitBits, leafBits, rawLoad, toStep, toldOf}
+use Rattle.paging.specs.Tests.{soundBits, tableBits, permitBits, leafBits, rawLoad, toStep, toldBy}
 use Rattle.paging.specs.Entry.{leafOf, ownedBy}
 
 -- what a purpose's faults are
@@ -79,22 +79,26 @@ pub ruleset entry-ways = (raw-violates, raw-points, raw-refuses, raw-misaligned,
 pub stepped-is : (p : Purpose) (x : Access) (r k : Raw) (t : Step) → r ≡ k → t ≡ toStep p x k → t ≡ toStep p x r
 stepped-is p x r k t e h = h ∙ sym (ap (toStep p x) e)
 
-pub told-is : (p : Purpose) (x : Access) (r k : Raw) (t : Translation) → r ≡ k → t ≡ toldOf p x k → t ≡ toldOf p x r
-told-is p x r k t e h = h ∙ sym (ap (toldOf p x) e)
-
 pub page-stop : (p : Purpose) (x : Access) (f : FaultInfo) → f ≡ pageFaultOf p x → Stop (Fault f) ≡ Stop (Fault (pageFaultOf p x))
 page-stop p x f e = ap (λ (g : FaultInfo). Stop (Fault g)) e
 
 pub access-stop : (p : Purpose) (x : Access) (f : FaultInfo) → f ≡ accessFaultOf p x → Stop (Fault f) ≡ Stop (Fault (accessFaultOf p x))
 access-stop p x f e = ap (λ (g : FaultInfo). Stop (Fault g)) e
 
-pub page-told : (p : Purpose) (x : Access) (f : FaultInfo) → f ≡ pageFaultOf p x → Fault f ≡ Fault (pageFaultOf p x)
-page-told p x f e = ap Fault e
+pub ruleset step-ways = (stepped-is, page-stop, access-stop)
 
-pub access-told : (p : Purpose) (x : Access) (f : FaultInfo) → f ≡ accessFaultOf p x → Fault f ≡ Fault (accessFaultOf p x)
-access-told p x f e = ap Fault e
+-- a walk's end, by its number
+module _ (p : Purpose) (x : Access) (r : ℕ) where
+  pub told-address : r < 9223372036854775808 → To r ≡ toldBy p x r
+  told-address h = simp (lt-ltb r 9223372036854775808 h)
 
-pub ruleset told-ways = (stepped-is, told-is, page-stop, access-stop, page-told, access-told)
+  pub told-faulty : (f : FaultInfo) → 9223372036854775808 ≤ r → r ≡ 9223372036854775808 → f ≡ pageFaultOf p x → Fault f ≡ toldBy p x r
+  told-faulty f h z e = simp (e, le-ltb r 9223372036854775808 h, eq-eqb r 9223372036854775808 z)
+
+  pub told-unread : (f : FaultInfo) → 9223372036854775808 ≤ r → (r ≡ 9223372036854775808 → ⊥) → f ≡ accessFaultOf p x → Fault f ≡ toldBy p x r
+  told-unread f h z e = simp (e, le-ltb r 9223372036854775808 h, ne-eqb r 9223372036854775808 z)
+
+pub ruleset told-ways = (told-address, told-faulty, told-unread)
 
 -- the joined tests
 pub own-user : (user b : Bool) (e : ℕ) → user ≡ true → b ≡ bit e 4 → b ≡ ownedBy user (leafOf e)

@@ -3,7 +3,9 @@ use Prim.Native.Nat.{ℕ, suc, _+_, _-_, _*_, _<_, _≤_, _^_}
 use mathlib.Core.Bool.{Bool, true, false}
 use mathlib.Core.Path.{_≡_, refl, sym, ap, _∙_, subst}
 use native.Mathlib.Omega.{arith}
+use borrow.Author.Tests.{lt-ltb}
 use Rattle.memory.specs.declared.Load.{Load}
+use Rattle.memory.specs.Choice.{pick}
 use Rattle.memory.specs.Walk.{Walk, done, run}
 use Rattle.memory.proofs.Walks.{then, loads, at}
 use Rattle.causes.specs.declared.Access.{Access}
@@ -11,6 +13,7 @@ use Rattle.causes.specs.declared.FaultInfo.{FaultInfo}
 use Rattle.paging.specs.declared.Scheme.{Scheme}
 use Rattle.paging.specs.declared.PageTable.{PageTable}
 use Rattle.paging.specs.declared.Purpose.{Purpose}
+use Rattle.paging.specs.declared.Purpose.the-variants.{FirstStage, FirstStageEntry}
 use Rattle.paging.specs.declared.Lookup.{Lookup}
 use Rattle.paging.specs.declared.Translation.{Translation}
 use Rattle.paging.specs.declared.Translation.the-variants.{To, Fault}
@@ -18,12 +21,12 @@ use Rattle.paging.specs.declared.Step.{Step}
 use Rattle.paging.specs.declared.Step.the-variants.{Stop, Next}
 use Rattle.paging.specs.Scheme.{levelsOf, legalOf, indexOf}
 use Rattle.paging.specs.Levels.{faulted, onLoad, onPlace, onStep, entryAt, levelOf, levels, walkOf}
-use Rattle.paging.specs.Stages.{guestLookup, secondStageOf, entryReach, deviceLookup, firstStageOf}
+use Rattle.paging.specs.Stages.{direct, guestLookup, secondStageOf, entryReach, deviceLookup, firstStageOf}
 use Rattle.paging.specs.Within.{Near, Within, Small}
 use Rattle.paging.specs.declared.Raw.{Raw}
 use Rattle.paging.specs.declared.Raw.the-variants.{Arrive, Unread}
 use Rattle.paging.specs.Purpose.{askedOf, pageFaultOf}
-use Rattle.paging.specs.Tests.{rawLoad, toStep, toldOf, onRaw, rawLevels, Tight}
+use Rattle.paging.specs.Tests.{rawLoad, toStep, toldOf, codeOf, toldBy, onRaw, rawLevels, Tight}
 use Rattle.paging.proofs.Tested.{tested, raw-walk}
 
 one-less : (left : ℕ) → 0 < left → suc (left - 1) ≡ left
@@ -81,18 +84,44 @@ module _ (m : ℕ → Load) (s : Scheme) (x : Access) (user : Bool) (a left tabl
   pub raw-goes : (k : ℕ) → r ≡ Raw.Next k → run m (rawLevels s x user a (left - 1) k) ≡ w
   raw-goes k e = sym (ap (λ (y : Raw). run m (onRaw (rawLevels s x user a (left - 1)) y)) e) ∙ raw-turned
 
-  pub raw-arrived : (k : ℕ) → r ≡ Arrive k → Arrive k ≡ w
+  raw-arrived : (k : ℕ) → r ≡ Arrive k → Arrive k ≡ w
   raw-arrived k e = sym (ap (λ (y : Raw). run m (onRaw (rawLevels s x user a (left - 1)) y)) e) ∙ raw-turned
 
-  pub raw-faulted : r ≡ Raw.Faulty → Raw.Faulty ≡ w
+  raw-faulted : r ≡ Raw.Faulty → Raw.Faulty ≡ w
   raw-faulted e = sym (ap (λ (y : Raw). run m (onRaw (rawLevels s x user a (left - 1)) y)) e) ∙ raw-turned
 
-  pub raw-unread : r ≡ Unread → Unread ≡ w
+  raw-unread : r ≡ Unread → Unread ≡ w
   raw-unread e = sym (ap (λ (y : Raw). run m (onRaw (rawLevels s x user a (left - 1)) y)) e) ∙ raw-turned
 
-pub raw-ends : (m : ℕ → Load) (s : Scheme) (x : Access) (user : Bool) (a left table : ℕ) (w : Raw) → left ≤ 0 → run m (rawLevels s x user a left table) ≡ w → Raw.Faulty ≡ w
+  -- the end as a number
+  pub code-arrived : (k : ℕ) → r ≡ Arrive k → k ≡ codeOf w
+  code-arrived k e = ap codeOf (raw-arrived k e)
+
+  pub end-arrived : (k : ℕ) → r ≡ Arrive k → Tight r → Tight w
+  end-arrived k e h = subst Tight (e ∙ raw-arrived k e) h
+
+  pub code-faulted : r ≡ Raw.Faulty → 9223372036854775808 ≡ codeOf w
+  code-faulted e = ap codeOf (raw-faulted e)
+
+  pub end-faulted : r ≡ Raw.Faulty → Tight w
+  end-faulted e = subst Tight (raw-faulted e) tt
+
+  pub code-unread : r ≡ Unread → 9223372036854775809 ≡ codeOf w
+  code-unread e = ap codeOf (raw-unread e)
+
+  pub end-unread : r ≡ Unread → Tight w
+  end-unread e = subst Tight (raw-unread e) tt
+
+raw-ends : (m : ℕ → Load) (s : Scheme) (x : Access) (user : Bool) (a left table : ℕ) (w : Raw) → left ≤ 0 → run m (rawLevels s x user a left table) ≡ w → Raw.Faulty ≡ w
 unfolding rawLevels
 raw-ends m s x user a left table w p hw = sym (ap (λ (k : ℕ). run m (rawLevels s x user a k table)) (none-left left p)) ∙ hw
+
+module _ (m : ℕ → Load) (s : Scheme) (x : Access) (user : Bool) (a left table : ℕ) (w : Raw) (p : left ≤ 0) (hw : run m (rawLevels s x user a left table) ≡ w) where
+  pub code-ends : 9223372036854775808 ≡ codeOf w
+  code-ends = ap codeOf (raw-ends m s x user a left table w p hw)
+
+  pub end-ends : Tight w
+  end-ends = subst Tight (raw-ends m s x user a left table w p hw) tt
 
 pub raw-starts : (m : ℕ → Load) (s : Scheme) (x : Access) (user : Bool) (a left root : ℕ)
     → left ≡ levelsOf s → run m (rawLevels s x user a left root) ≡ run m (rawLevels s x user a (levelsOf s) root)
@@ -101,10 +130,14 @@ raw-starts m s x user a left root h = ap (λ (k : ℕ). run m (rawLevels s x use
 pub tight-next : (r : Raw) (k : ℕ) → r ≡ Raw.Next k → Tight r → k < 2 ^ 44
 tight-next r k e h = subst Tight e h
 
-pub tight-arrive : (r : Raw) (k : ℕ) → r ≡ Arrive k → Tight r → k < 2 ^ 57
-tight-arrive r k e h = subst Tight e h
+pub ruleset raw-ways = (raw-goes, code-arrived, end-arrived, code-faulted, end-faulted, code-unread, end-unread, code-ends, end-ends, raw-starts, tight-next)
 
-pub ruleset raw-ways = (tight-arrive, raw-goes, raw-arrived, raw-faulted, raw-unread, raw-ends, raw-starts, tight-next)
+-- what the number says is what the end says
+coded : (p : Purpose) (x : Access) (r : Raw) → Tight r → toldBy p x (codeOf r) ≡ toldOf p x r
+coded p x (Arrive a) h = simp (lt-ltb a 9223372036854775808 (omega arith))
+coded p x (Raw.Next t) h = refl
+coded p x Raw.Faulty h = refl
+coded p x Unread h = refl
 
 -- a turn of the loop: `left` levels are left before it, and w is the answer of the whole walk
 module _ (m : ℕ → Load) (s : Scheme) (q : Lookup) (reach : ℕ → Walk Translation) (left table : ℕ) (t : Step) (w : Translation)
@@ -147,11 +180,12 @@ module _ (m : ℕ → Load) (g : PageTable) (p : Purpose) (x : Access) (a : ℕ)
     unfolding secondStageOf walkOf
     second-illegal f l e = ap Fault e ∙ simp (h, ← hl, l)
 
-    pub second-walks : (t : Translation) (k : Access) (r : Raw) → legal ≡ true → k ≡ askedOf p x
-        → r ≡ run m (rawLevels (g .scheme) k true a (levelsOf (g .scheme)) (g .root)) → t ≡ toldOf p x r → t ≡ run m (secondStageOf g p x a)
+    pub second-walks : (t : Translation) (k : Access) (n : ℕ) (r : Raw) → legal ≡ true → k ≡ askedOf p x
+        → r ≡ run m (rawLevels (g .scheme) k true a (levelsOf (g .scheme)) (g .root)) → Tight r → n ≡ codeOf r → t ≡ toldBy p x n → t ≡ run m (secondStageOf g p x a)
     unfolding secondStageOf walkOf
-    second-walks t k r l hk hr e =
-        e ∙ ap (toldOf p x) (hr ∙ ap (λ (y : Access). run m (rawLevels (g .scheme) y true a (levelsOf (g .scheme)) (g .root))) hk)
+    second-walks t k n r l hk hr ht hn e =
+        e ∙ ap (toldBy p x) hn ∙ coded p x r ht
+        ∙ ap (toldOf p x) (hr ∙ ap (λ (y : Access). run m (rawLevels (g .scheme) y true a (levelsOf (g .scheme)) (g .root))) hk)
         ∙ raw-walk m (g .scheme) (guestLookup p x a) (levelsOf (g .scheme)) (g .root)
         ∙ simp (h, ← hl, l)
 
@@ -161,13 +195,19 @@ within-of a p x (Raw.Next t) h = tt
 within-of a p x Raw.Faulty h = tt
 within-of a p x Unread h = tt
 
-pub told-within : (a : ℕ) (p : Purpose) (x : Access) (r : Raw) (t : Translation) → t ≡ toldOf p x r → Tight r → Within a t
-told-within a p x r t e h = subst (Within a) (sym e) (within-of a p x r h)
+pub told-within : (a : ℕ) (p : Purpose) (x : Access) (n : ℕ) (r : Raw) (t : Translation) → t ≡ toldBy p x n → n ≡ codeOf r → Tight r → Within a t
+told-within a p x n r t e k h = subst (Within a) (sym (e ∙ ap (toldBy p x) k ∙ coded p x r h)) (within-of a p x r h)
 
 pub bare-within : (a : ℕ) → a ≤ a + 2 ^ 57
 bare-within a = omega arith
 
 pub ruleset second-ways = (second-bare, second-illegal, second-walks, told-within, bare-within)
+
+bare-reach : (g : PageTable) (q : Lookup) → g .on ≡ false → entryReach g q ≡ direct
+unfolding secondStageOf
+bare-reach g q h =
+    let reach : Bool → ℕ → Walk Translation = λ b a. pick b (walkOf (g .scheme) (guestLookup FirstStageEntry (q .access) a) direct (g .root)) (done (To a)) in
+    ap reach h
 
 module _ (m : ℕ → Load) (f g : PageTable) (x : Access) (user : Bool) (a : ℕ) where
   pub first-bare : f .on ≡ false → To a ≡ run m (firstStageOf f g x user a)
@@ -184,4 +224,13 @@ module _ (m : ℕ → Load) (f g : PageTable) (x : Access) (user : Bool) (a : �
     unfolding firstStageOf walkOf
     first-walks l e = e ∙ simp (h, ← hl, l)
 
-pub ruleset first-ways = (first-bare, first-illegal, first-walks)
+    -- "First-stage entries lie at guest addresses when the second stage is on", else where their addresses say
+    pub first-direct : (n : ℕ) (r : Raw) → legal ≡ true → g .on ≡ false → r ≡ run m (rawLevels (f .scheme) x user a (levelsOf (f .scheme)) (f .root))
+        → Tight r → n ≡ codeOf r → t ≡ toldBy FirstStage x n → t ≡ run m (firstStageOf f g x user a)
+    first-direct n r l b e ht hn k =
+        first-walks l
+        (k ∙ ap (toldBy FirstStage x) hn ∙ coded FirstStage x r ht ∙ ap (toldOf FirstStage x) e
+        ∙ raw-walk m (f .scheme) (deviceLookup x user a) (levelsOf (f .scheme)) (f .root)
+        ∙ ap (λ (reach : ℕ → Walk Translation). run m (levels (f .scheme) (deviceLookup x user a) reach (levelsOf (f .scheme)) (f .root))) (sym (bare-reach g (deviceLookup x user a) b)))
+
+pub ruleset first-ways = (first-bare, first-illegal, first-walks, first-direct)

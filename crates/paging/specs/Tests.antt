@@ -1,7 +1,7 @@
 -- The walk as the code makes it: an entry by tests of its bits joined by `&`, and steps that carry no cause. Nothing that a reader has to believe: `paging.Tested.tested` and `paging.Tested.raw-walk` show that it says what `Entry` and `Levels` say.
 use Prim.Native.Nat.{ℕ, zero, suc, _+_, _*_, _/_, _%_, _^_, _<_}
 use mathlib.Core.Bool.{Bool, not, _&&_, _||_}
-use lib.Dec.{eqb}
+use lib.Dec.{eqb, ltb}
 use Rattle.memory.specs.Choice.{pick}
 use Rattle.memory.specs.Bits.{bit}
 use Rattle.memory.specs.declared.Load.{Load}
@@ -62,6 +62,17 @@ toldOf p x (Arrive a) = To a
 toldOf p x (Next table) = Fault (pageFaultOf p x)
 toldOf p x Faulty = Fault (pageFaultOf p x)
 toldOf p x Unread = Fault (accessFaultOf p x)
+
+-- the end of a walk as one number: an address, or one of two that no address is
+abbrev pub codeOf : Raw → ℕ
+codeOf (Arrive a) = a
+codeOf (Next table) = 9223372036854775808
+codeOf Faulty = 9223372036854775808
+codeOf Unread = 9223372036854775809
+
+abbrev pub toldBy : Purpose → Access → ℕ → Translation
+toldBy p x r =
+    pick (ltb r 9223372036854775808) (To r) (pick (eqb r 9223372036854775808) (Fault (pageFaultOf p x)) (Fault (accessFaultOf p x)))
 
 abbrev pub onRaw : (ℕ → Walk Raw) → Raw → Walk Raw
 onRaw next (Next table) = next table

@@ -15,7 +15,7 @@ ghost use Rattle.paging.specs.Entry.{leafOf, ownedBy};
 ghost use Rattle.paging.specs.Levels.{faulted as faultedOf, levelOf, levels as levelsFrom};
 ghost use Rattle.paging.specs.Stages.{secondStageOf, entryReach, firstStageOf};
 ghost use Rattle.paging.specs.Within.{Within, Small};
-ghost use Rattle.paging.specs.Tests.{soundBits, tableBits, permitBits, leafBits, rawLoad, rawLevels, toStep, toldOf, Tight};
+ghost use Rattle.paging.specs.Tests.{soundBits, tableBits, permitBits, leafBits, rawLoad, rawLevels, toStep, codeOf, toldBy, Tight};
 
 // The page-table schemes (01, "Fixed capabilities").
 pub enum Scheme {
@@ -300,10 +300,15 @@ fn read_entry(x: Access, user: bool, a: u64, n: u64, v: Load) -> Raw
     Raw::Faulty
 }
 
-// The walk of a table whose entries lie where their addresses say. Causes come after it.
-fn descend(s: Scheme, x: Access, user: bool, a: u64, start: u64, window: &[u8], root: u64) -> Raw
+// Ends of a walk that no address is.
+const FAULTY: u64 = 9223372036854775808;
+
+const UNREAD: u64 = 9223372036854775809;
+
+// The walk of a table whose entries lie where their addresses say. Its end is one number, so that it comes back in a register; causes come after it.
+fn descend(s: Scheme, x: Access, user: bool, a: u64, start: u64, window: &[u8], root: u64) -> u64
     requires { ⌜ root < 2 ^ 44 ⌝ }
-    ensures { λ r. ⌜ (r ≡ run (memory start (now (window .entry))) (rawLevels s x user a (levelsOf s) root)) × Tight r ⌝ }
+    ensures { λ r. ⌜ (r ≡ codeOf (run (memory start (now (window .entry))) (rawLevels s x user a (levelsOf s) root))) × Tight (run (memory start (now (window .entry))) (rawLevels s x user a (levelsOf s) root)) ⌝ }
 {
     let mut left = s.levels();
     let mut table = root;
@@ -315,29 +320,30 @@ fn descend(s: Scheme, x: Access, user: bool, a: u64, start: u64, window: &[u8], 
                 table = next;
             }
             Raw::Arrive(p) => {
-                return Raw::Arrive(p);
+                return p;
             }
             Raw::Faulty => {
-                return Raw::Faulty;
+                return FAULTY;
             }
             Raw::Unread => {
-                return Raw::Unread;
+                return UNREAD;
             }
         }
     }
-    Raw::Faulty
+    FAULTY
 }
 
 // The end of a walk, with its cause.
-fn told(p: Purpose, x: Access, r: Raw) -> Translation
-    ensures { λ t. ⌜ t ≡ toldOf p x r ⌝ }
+fn told(p: Purpose, x: Access, r: u64) -> Translation
+    ensures { λ t. ⌜ t ≡ toldBy p x r ⌝ }
 {
-    match r {
-        Raw::Arrive(a) => Translation::To(a),
-        Raw::Next(_) => Translation::Fault(page_fault(p, x)),
-        Raw::Faulty => Translation::Fault(page_fault(p, x)),
-        Raw::Unread => Translation::Fault(access_fault(p, x)),
+    if r < FAULTY {
+        return Translation::To(r);
     }
+    if r == FAULTY {
+        return Translation::Fault(page_fault(p, x));
+    }
+    Translation::Fault(access_fault(p, x))
 }
 
 // A level of a walk, with its cause.
@@ -455,7 +461,11 @@ pub fn first_stage(
             user,
         };
         if s.legal(a) {
-            return guest_descend(s, q, g, start, window, f.root);
+            if g.on {
+                return guest_descend(s, q, g, start, window, f.root);
+            }
+            let o = Purpose::FirstStage;
+            return told(o, x, descend(s, x, user, a, start, window, f.root));
         }
         return faulted(q);
     }

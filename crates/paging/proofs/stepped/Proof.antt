@@ -1,5 +1,5 @@
 -- `stepped` meets its contract: one law for each return. Assumes nothing.
-use Rattle.paging.proofs.Entries.{told-ways}
+use Rattle.paging.proofs.Entries.{step-ways}
 use borrow.Author.Needs.{needs}
 use Rattle.paging.proofs.stepped.Statement.{statement}
 use Rattle.paging.proofs.stepped.Tie as tie
@@ -23,16 +23,16 @@ access-fault-requires : tie.Need-access-fault-requires
 access-fault-requires c κs = search needs
 
 returns : tie.Need-returns
-returns c = search (told-ways, needs)
+returns c = search (step-ways, needs)
 
 returns-2 : tie.Need-returns-2
-returns-2 c = search (told-ways, needs)
+returns-2 c = search (step-ways, needs)
 
 returns-3 : tie.Need-returns-3
-returns-3 c = search (told-ways, needs)
+returns-3 c = search (step-ways, needs)
 
 returns-4 : tie.Need-returns-4
-returns-4 c = search (told-ways, needs)
+returns-4 c = search (step-ways, needs)
 
 pub stepped-spec : {M : Type 1} → statement M
 stepped-spec =

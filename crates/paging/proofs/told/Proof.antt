@@ -4,51 +4,21 @@ use borrow.Author.Needs.{needs}
 use Rattle.paging.proofs.told.Statement.{statement}
 use Rattle.paging.proofs.told.Tie as tie
 
-enum-known-r : tie.Need-enum-known-r
-enum-known-r c = search needs
-
-enum-told : tie.Need-enum-told
-enum-told c = search needs
+returns : tie.Need-returns
+returns c = search (told-ways, needs)
 
 page-fault-requires : tie.Need-page-fault-requires
 page-fault-requires c κs = search needs
 
-enum-told-2 : tie.Need-enum-told-2
-enum-told-2 c = search needs
-
-page-fault-requires-2 : tie.Need-page-fault-requires-2
-page-fault-requires-2 c κs = search needs
-
-enum-told-3 : tie.Need-enum-told-3
-enum-told-3 c = search needs
+returns-2 : tie.Need-returns-2
+returns-2 c = search (told-ways, needs)
 
 access-fault-requires : tie.Need-access-fault-requires
 access-fault-requires c κs = search needs
 
-returns : tie.Need-returns
-returns c = search (told-ways, needs)
-
-returns-2 : tie.Need-returns-2
-returns-2 c = search (told-ways, needs)
-
 returns-3 : tie.Need-returns-3
 returns-3 c = search (told-ways, needs)
 
-returns-4 : tie.Need-returns-4
-returns-4 c = search (told-ways, needs)
-
 pub told-spec : {M : Type 1} → statement M
 told-spec =
-    tie.close
-    (tie.spec
-    enum-known-r
-    enum-told
-    page-fault-requires
-    enum-told-2
-    page-fault-requires-2
-    enum-told-3
-    access-fault-requires
-    returns
-    returns-2
-    returns-3
-    returns-4)
+    tie.close (tie.spec returns page-fault-requires returns-2 access-fault-requires returns-3)
