@@ -1,6 +1,7 @@
 -- The process directory and the first stage that it gives, over plain values. Assumes nothing.
 use Prim.Native.Nat.{ℕ, _+_, _-_, _*_, _<_, _≤_, _^_}
-use mathlib.Core.Bool.{Bool, true, false, _&&_, not}
+use mathlib.Core.Bool.{Bool, true, false, _&&_, _||_, not}
+use lib.Dec.{leb}
 use mathlib.Core.Path.{_≡_, refl, sym, ap, _∙_, subst}
 use native.Mathlib.Omega.{arith}
 use borrow.Author.Tests.{not-true, not-false}
@@ -31,10 +32,10 @@ use Rattle.directory.specs.declared.ProcessId.{ProcessId}
 use Rattle.directory.specs.declared.ProcessId.the-variants.{Absent, Given}
 use Rattle.directory.specs.declared.PageTableInfo.{PageTableInfo}
 use Rattle.directory.specs.declared.PageTableInfo.the-variants.{Use}
-use Rattle.directory.specs.Pointers.{loadFault, invalid, misconfigured, pointerOf, pointers}
+use Rattle.directory.specs.Pointers.{loadFault, invalid, misconfigured, pointerOf, pointers, tooWide}
 use Rattle.directory.specs.Fields.{modeOf, pageOf, bareOf, firstTable, secondTable, bareTable}
 use Rattle.directory.specs.Device.{pdtv, dpe}
-use Rattle.directory.specs.Process.{processIndex, processMisconfigured, checkedProcess, processLoad, processContextAt, onProcessPlace, processReach, onProcessTable, processContextOf, onProcess, processTable, processTooWide, firstTableOf}
+use Rattle.directory.specs.Process.{processIndex, processMisconfigured, checkedProcess, processLoad, processContextAt, onProcessPlace, processReach, onProcessTable, processContextOf, onProcess, processTable, processTooWide, wantedOf, firstTableOf}
 use Rattle.directory.specs.Sound.{Near}
 use Rattle.directory.proofs.Entries.{unplaced, stopped, gone, ended, near-next, near-page}
 use Rattle.directory.proofs.Contexts.{leaf-unread, leaf-invalid, leaf-valid}
@@ -179,50 +180,67 @@ module _ (m : ℕ → Load) (c : DeviceContext) (s : Bool) (x : Access) (p : ℕ
 
 pub ruleset table-ways = (table-bare, table-unfound, table-refused, table-given)
 
+-- the process that is looked for
+module _ (c : DeviceContext) (process : ProcessId) where
+  pub wanted-given : (p : ℕ) → process ≡ Given p → Given p ≡ wantedOf c process
+  wanted-given p e = sym (ap (wantedOf c) e)
+
+  module _ (e : process ≡ Absent) (b : Bool) (hb : b ≡ dpe c) where
+    pub wanted-default : b ≡ true → Given 0 ≡ wantedOf c process
+    wanted-default t = sym (ap (wantedOf c) e ∙ ap (λ q. pick q (Given 0) Absent) (sym hb ∙ t))
+
+    pub wanted-none : b ≡ false → Absent ≡ wantedOf c process
+    wanted-none t = sym (ap (wantedOf c) e ∙ ap (λ q. pick q (Given 0) Absent) (sym hb ∙ t))
+
+pub ruleset wanted-ways = (wanted-given, wanted-default, wanted-none)
+
+-- process 0 is never too wide
+zero-fits : (c : DeviceContext) → processTooWide c 0 ≡ false
+unfolding tooWide
+zero-fits c = none (not (bareOf (c .fsc))) (leb (modeOf (c .fsc)) 1) (leb (modeOf (c .fsc)) 2)
+  where
+    none : (n a b : Bool) → (n && ((a && false) || (b && false))) ≡ false
+    none false a b = refl
+    none true false false = refl
+    none true false true = refl
+    none true true false = refl
+    none true true true = refl
+
 -- which first stage a request has
 module _ (m : ℕ → Load) (c : DeviceContext) (process : ProcessId) (s : Bool) (x : Access) (b : Bool) (hb : b ≡ pdtv c) where
-  module _ (p : ℕ) (e : process ≡ Given p) where
-    given : {q : Bool} {z : PageTableInfo} → b ≡ q
-        → z ≡ run m (pick q (pick (processTooWide c p) (done (PageTableInfo.Fault disallowed)) (processTable c s x p)) (done (PageTableInfo.Fault disallowed)))
-        → z ≡ run m (firstTableOf c process s x)
-    unfolding firstTableOf
-    given t h =
-        at m (λ i. firstTableOf c i s x) e
-        (at m (λ q. pick q (pick (processTooWide c p) (done (PageTableInfo.Fault disallowed)) (processTable c s x p)) (done (PageTableInfo.Fault disallowed))) (sym hb ∙ t) h)
+  pub given-refused : (p : ℕ) (d : FaultInfo) → process ≡ Given p → not b ≡ true → d ≡ disallowed → PageTableInfo.Fault d ≡ run m (firstTableOf c process s x)
+  unfolding firstTableOf
+  given-refused p d e t h = at m (λ i. firstTableOf c i s x) e (simp (← hb, not-true b t, h))
 
-    pub given-refused : (d : FaultInfo) → not b ≡ true → d ≡ disallowed → PageTableInfo.Fault d ≡ run m (firstTableOf c process s x)
-    given-refused d t h = given (not-true b t) (ap PageTableInfo.Fault h)
+  pub absent-first : (t : PageTable) → process ≡ Absent → not b ≡ true → t ≡ firstTable (c .fsc) → Use t ≡ run m (firstTableOf c process s x)
+  unfolding firstTableOf
+  absent-first t e u h = at m (λ i. firstTableOf c i s x) e (simp (← hb, not-true b u, h))
 
-    module _ (t : not b ≡ false) (w : Bool) (hw : w ≡ processTooWide c p) where
-      fitting : {q : Bool} {z : PageTableInfo} → w ≡ q → z ≡ run m (pick q (done (PageTableInfo.Fault disallowed)) (processTable c s x p)) → z ≡ run m (firstTableOf c process s x)
-      fitting u h = given (not-false b t) (at m (λ q. pick q (done (PageTableInfo.Fault disallowed)) (processTable c s x p)) (sym hw ∙ u) h)
+  abbrev onWanted : ProcessId → Walk PageTableInfo
+  onWanted (Given p) = pick (processTooWide c p) (done (PageTableInfo.Fault disallowed)) (processTable c s x p)
+  onWanted Absent = done (Use bareTable)
 
-      pub given-wide : (d : FaultInfo) → w ≡ true → d ≡ disallowed → PageTableInfo.Fault d ≡ run m (firstTableOf c process s x)
-      given-wide d u h = fitting u (ap PageTableInfo.Fault h)
+  is-wanted : pdtv c ≡ true → (i : ProcessId) → run m (onWanted (wantedOf c i)) ≡ run m (firstTableOf c i s x)
+  unfolding firstTableOf
+  is-wanted t (Given p) = simp t
+  is-wanted t Absent = go (dpe c)
+    where
+      go : (d : Bool) → run m (onWanted (pick d (Given 0) Absent)) ≡ run m (pick (pdtv c) (pick d (processTable c s x 0) (done (Use bareTable))) (done (Use (firstTable (c .fsc)))))
+      go true = simp (t, zero-fits c)
+      go false = simp t
 
-      pub given-table : (z : PageTableInfo) → w ≡ false → z ≡ run m (processTable c s x p) → z ≡ run m (firstTableOf c process s x)
-      given-table z u h = fitting u h
+  module _ (t : not b ≡ false) (w : ProcessId) (hw : w ≡ wantedOf c process) where
+    wanted : {z : PageTableInfo} → z ≡ run m (onWanted w) → z ≡ run m (firstTableOf c process s x)
+    wanted h = h ∙ ap (λ i. run m (onWanted i)) hw ∙ is-wanted (sym hb ∙ not-false b t) process
 
-  module _ (e : process ≡ Absent) where
-    absent : {q : Bool} {z : PageTableInfo} → b ≡ q
-        → z ≡ run m (pick q (pick (dpe c) (processTable c s x 0) (done (Use bareTable))) (done (Use (firstTable (c .fsc)))))
-        → z ≡ run m (firstTableOf c process s x)
-    unfolding firstTableOf
-    absent t h =
-        at m (λ i. firstTableOf c i s x) e
-        (at m (λ q. pick q (pick (dpe c) (processTable c s x 0) (done (Use bareTable))) (done (Use (firstTable (c .fsc))))) (sym hb ∙ t) h)
+    pub none-wanted : (n : PageTable) → w ≡ Absent → n ≡ bareTable → Use n ≡ run m (firstTableOf c process s x)
+    none-wanted n e h = wanted (at m onWanted e (ap Use h))
 
-    pub absent-first : (t : PageTable) → not b ≡ true → t ≡ firstTable (c .fsc) → Use t ≡ run m (firstTableOf c process s x)
-    absent-first t u h = absent (not-true b u) (ap Use h)
+    module _ (p : ℕ) (e : w ≡ Given p) (v : Bool) (hv : v ≡ processTooWide c p) where
+      pub wanted-wide : (d : FaultInfo) → v ≡ true → d ≡ disallowed → PageTableInfo.Fault d ≡ run m (firstTableOf c process s x)
+      wanted-wide d u h = wanted (at m onWanted e (simp (← hv, u, h)))
 
-    module _ (t : not b ≡ false) (d : Bool) (hd : d ≡ dpe c) where
-      defaulted : {q : Bool} {z : PageTableInfo} → d ≡ q → z ≡ run m (pick q (processTable c s x 0) (done (Use bareTable))) → z ≡ run m (firstTableOf c process s x)
-      defaulted u h = absent (not-false b t) (at m (λ q. pick q (processTable c s x 0) (done (Use bareTable))) (sym hd ∙ u) h)
+      pub wanted-table : (z : PageTableInfo) → v ≡ false → z ≡ run m (processTable c s x p) → z ≡ run m (firstTableOf c process s x)
+      wanted-table z u h = wanted (at m onWanted e (h ∙ simp (← hv, u)))
 
-      pub absent-bare : (n : PageTable) → not d ≡ true → n ≡ bareTable → Use n ≡ run m (firstTableOf c process s x)
-      absent-bare n u h = defaulted (not-true d u) (ap Use h)
-
-      pub absent-table : (z : PageTableInfo) → not d ≡ false → z ≡ run m (processTable c s x 0) → z ≡ run m (firstTableOf c process s x)
-      absent-table z u h = defaulted (not-false d u) h
-
-pub ruleset first-ways = (given-refused, given-wide, given-table, absent-first, absent-bare, absent-table)
+pub ruleset first-ways = (given-refused, absent-first, none-wanted, wanted-wide, wanted-table)

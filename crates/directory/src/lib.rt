@@ -22,7 +22,7 @@ ghost use Rattle.paging.specs.Within.{Within};
 ghost use Rattle.directory.specs.Pointers.{loadFault, invalid as invalidOf, misconfigured as misconfiguredOf, pointerOf, pointers, tooWide};
 ghost use Rattle.directory.specs.Fields.{modeOf, pageOf, bareOf, validMode, firstTable, secondTable, bareTable};
 ghost use Rattle.directory.specs.Device.{pdtv, dpe, deviceIndex, deviceMisconfigured, deviceContextAt, deviceContextOf};
-ghost use Rattle.directory.specs.Process.{processIndex, processMisconfigured, processContextAt, processReach, processContextOf, processTable, processTooWide, firstTableOf};
+ghost use Rattle.directory.specs.Process.{wantedOf, processIndex, processMisconfigured, processContextAt, processReach, processContextOf, processTable, processTooWide, firstTableOf};
 ghost use Rattle.directory.specs.Sound.{Near, Masked, Rooted};
 
 // The two directories.
@@ -561,7 +561,20 @@ fn process_too_wide(c: DeviceContext, p: u64) -> bool
     !bare(c.fsc) & too_wide(mode(c.fsc), process_index(p, 1), process_index(p, 2))
 }
 
-// The first stage's table for a request.
+// The process to look for in a process directory: under DPE it is 0 where none is given.
+fn wanted(c: DeviceContext, process: ProcessId) -> ProcessId
+    ensures { λ r. ⌜ r ≡ wantedOf c process ⌝ }
+{
+    let ProcessId::Given(p) = process else {
+        if memory::bit(c.tc, 9) {
+            return ProcessId::Given(0);
+        }
+        return ProcessId::Absent;
+    };
+    ProcessId::Given(p)
+}
+
+// The first stage's table for a request. One call of `process_table`, so that it is inlined here.
 pub fn first_table(
     c: DeviceContext,
     process: ProcessId,
@@ -573,18 +586,16 @@ pub fn first_table(
     ensures { λ r. ⌜ (r ≡ run (memory start (now (window .entry))) (firstTableOf c process supervisor x)) × Rooted r ⌝ }
 {
     let pdtv = memory::bit(c.tc, 5);
-    let ProcessId::Given(p) = process else {
-        if !pdtv {
-            return PageTableInfo::Use(iosatp(c.fsc));
-        }
-        if !memory::bit(c.tc, 9) {
-            return PageTableInfo::Use(bare_table());
-        }
-        return process_table(c, supervisor, x, 0, start, window);
-    };
     if !pdtv {
+        let ProcessId::Given(_) = process else {
+            return PageTableInfo::Use(iosatp(c.fsc));
+        };
         return PageTableInfo::Fault(causes::disallowed());
     }
+    let found = wanted(c, process);
+    let ProcessId::Given(p) = found else {
+        return PageTableInfo::Use(bare_table());
+    };
     if process_too_wide(c, p) {
         return PageTableInfo::Fault(causes::disallowed());
     }

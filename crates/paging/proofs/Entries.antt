@@ -1,7 +1,7 @@
 -- A page-table entry and its step, by the tests that the code makes. Assumes nothing.
 use Prim.Native.Nat.{ℕ, _+_, _*_, _/_, _%_, _^_, _<_, _≤_}
 use mathlib.Core.Bool.{Bool, true, false, not, _&&_, _||_}
-use mathlib.Core.Path.{_≡_, sym, ap, _∙_}
+use mathlib.Core.Path.{_≡_, refl, sym, ap, _∙_}
 use native.Mathlib.Omega.{arith}
 use native.Mathlib.Nat.{mod-lt}
 use lib.Dec.{eqb}
@@ -23,7 +23,7 @@ use Rattle.paging.specs.declared.Step.the-variants.{Stop}
 use Rattle.paging.specs.declared.Raw.{Raw}
 use Rattle.paging.specs.declared.Raw.the-variants.{Arrive, Unread}
 use Rattle.paging.specs.Purpose.{pageFaultOf, accessFaultOf}
-use Rattle.paging.specs.Tests.{soundBits, tableBits, permitBits, leafBits, rawLoad, toStep, toldBy}
+use Rattle.paging.specs.Tests.{soundBits, tableBits, permitOf, permitBits, leafBits, rawLoad, toStep, toldBy, writesOf, executesOf}
 use Rattle.paging.specs.Entry.{leafOf, ownedBy}
 
 -- what a purpose's faults are
@@ -109,17 +109,18 @@ own-supervisor user b e t h = ap not h ∙ simp t
 
 pub ruleset own-ways = (own-user, own-supervisor)
 
-module _ (x : Access) (e : ℕ) where
-  pub permit-read : (r : Bool) → x ≡ Read → r ≡ bit e 1 → r ≡ permitBits x e
-  permit-read r k h = h ∙ simp k
+permit-table : (x : Access) (r w y d : Bool) → ((executesOf x || r) && (not (writesOf x) || (w && d)) && (not (executesOf x) || y) && (r || not w)) ≡ permitOf x r w y d
+permit-table Read true w y d = refl
+permit-table Read false w y d = refl
+permit-table Write true true y true = refl
+permit-table Write true true y false = refl
+permit-table Write true false y d = refl
+permit-table Write false w y d = refl
+permit-table Execute r w y d = refl
 
-  pub permit-write : (r w d : Bool) → x ≡ Write → r ≡ bit e 1 → w ≡ bit e 2 → d ≡ bit e 7 → (r && w && d) ≡ permitBits x e
-  permit-write r w d k hr hw hd = simp (hr, hw, hd, k)
-
-  pub permit-execute : (r w y : Bool) → x ≡ Execute → y ≡ bit e 3 → r ≡ bit e 1 → w ≡ bit e 2 → (y && (r || not w)) ≡ permitBits x e
-  permit-execute r w y k hy hr hw = simp (hy, hr, hw, k)
-
-pub ruleset permit-ways = (permit-read, permit-write, permit-execute)
+pub permit-joined : (x : Access) (e : ℕ) (r w d y f g : Bool) → r ≡ bit e 1 → w ≡ bit e 2 → d ≡ bit e 7 → f ≡ executesOf x → g ≡ writesOf x → y ≡ bit e 3
+    → ((f || r) && (not g || (w && d)) && (not f || y) && (r || not w)) ≡ permitBits x e
+permit-joined x e r w d y f g hr hw hd hf hg hy = rw (hr, hw, hd, hf, hg, hy, permit-table x)
 
 pub sound-is : (e : ℕ) (v : Bool) → v ≡ bit e 0 → (v && eqb (e / 18014398509481984 % 1024) 0) ≡ soundBits e
 sound-is e v h = simp h
