@@ -1,10 +1,21 @@
 -- The standard's causes (01, "The two walks": "Causes follow the original access").
 use Prim.Native.Nat.{ℕ}
+use mathlib.Core.Bool.{Bool, true, false}
 use Rattle.causes.specs.declared.Access.{Access}
 use Rattle.causes.specs.declared.Access.the-variants.{Read, Write, Execute}
 use Rattle.causes.specs.declared.Stage.{Stage}
 use Rattle.causes.specs.declared.Stage.the-variants.{Directory, ProcessDirectory, First, Second, MessageTable}
 use Rattle.causes.specs.declared.FaultInfo.{FaultInfo}
+
+abbrev pub isWrite : Access → Bool
+isWrite Read = false
+isWrite Write = true
+isWrite Execute = false
+
+abbrev pub isExecute : Access → Bool
+isExecute Read = false
+isExecute Write = false
+isExecute Execute = true
 
 -- "access fault 1, 5, 7 (execute, read, write)"
 abbrev pub accessFault : Access → ℕ

@@ -1,6 +1,6 @@
 // What a device asks to do, and what a fault says.
 ghost use mathlib.Core.Path.{_≡_};
-ghost use Rattle.causes.specs.Causes.{accessFault, pageFault, guestPageFault, disallowed as disallowedOf, stageNumber};
+ghost use Rattle.causes.specs.Causes.{isWrite, isExecute, accessFault, pageFault, guestPageFault, disallowed as disallowedOf, stageNumber};
 
 // 01: "read, write or read-for-execute".
 pub enum Access {
@@ -22,6 +22,26 @@ pub enum Stage {
 pub struct FaultInfo {
     pub cause: u64,
     pub stage: Stage,
+}
+
+pub fn is_write(x: Access) -> bool
+    ensures { λ r. ⌜ r ≡ isWrite x ⌝ }
+{
+    match x {
+        Access::Read => false,
+        Access::Write => true,
+        Access::Execute => false,
+    }
+}
+
+pub fn is_execute(x: Access) -> bool
+    ensures { λ r. ⌜ r ≡ isExecute x ⌝ }
+{
+    match x {
+        Access::Read => false,
+        Access::Write => false,
+        Access::Execute => true,
+    }
 }
 
 pub fn access_fault(x: Access) -> u64

@@ -35,8 +35,8 @@ use Rattle.directory.specs.declared.PageTableInfo.the-variants.{Use}
 use Rattle.directory.specs.Pointers.{loadFault, invalid, misconfigured, pointerOf, pointers, tooWide}
 use Rattle.directory.specs.Fields.{modeOf, pageOf, bareOf, firstTable, secondTable, bareTable}
 use Rattle.directory.specs.Device.{pdtv, dpe}
-use Rattle.directory.specs.Process.{processIndex, processMisconfigured, checkedProcess, processLoad, processContextAt, onProcessPlace, processReach, onProcessTable, processContextOf, onProcess, processTable, processTooWide, wantedOf, firstTableOf}
-use Rattle.directory.specs.Sound.{Near}
+use Rattle.directory.specs.Process.{processIndex, processMisconfigured, checkedProcess, processLoad, processContextAt, onProcessPlace, processReach, onProcessTable, processContextOf, onProcess, processTable, processTooWide, firstTableOf}
+use Rattle.directory.specs.Sound.{Near, wantedOf}
 use Rattle.directory.proofs.Entries.{unplaced, stopped, gone, ended, near-next, near-page}
 use Rattle.directory.proofs.Contexts.{leaf-unread, leaf-invalid, leaf-valid}
 

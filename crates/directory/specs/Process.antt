@@ -92,11 +92,6 @@ processTable c supervisor x p =
 abbrev pub processTooWide : DeviceContext → ℕ → Bool
 processTooWide c p = not (bareOf (c .fsc)) && tooWide (modeOf (c .fsc)) (processIndex p 1) (processIndex p 2)
 
--- step 11: "If DPE is 1 and there is no process_id associated with the transaction then let process_id be the default value of 0"
-abbrev pub wantedOf : DeviceContext → ProcessId → ProcessId
-wantedOf c (Given p) = Given p
-wantedOf c Absent = pick (dpe c) (Given 0) Absent
-
 -- steps 7 and 10 to 16: which first-stage table translates the request
 unfoldable pub firstTableOf : DeviceContext → ProcessId → Bool → Access → Walk PageTableInfo
 firstTableOf c (Given p) supervisor x =

@@ -1,5 +1,10 @@
--- Bounds that a caller's sums need, by cases; nothing that a reader has to believe.
+-- Bounds that a caller's sums need, by cases, and the process that the code looks for; nothing that a reader has to believe.
 use Prim.Native.Nat.{_<_, _^_}
+use Rattle.memory.specs.Choice.{pick}
+use Rattle.directory.specs.declared.DeviceContext.{DeviceContext}
+use Rattle.directory.specs.declared.ProcessId.{ProcessId}
+use Rattle.directory.specs.declared.ProcessId.the-variants.{Absent, Given}
+use Rattle.directory.specs.Device.{dpe}
 use Rattle.directory.specs.declared.Pointed.{Pointed}
 use Rattle.directory.specs.declared.Pointed.the-variants.{Next, Fault}
 use Rattle.directory.specs.declared.DeviceFound.{DeviceFound}
@@ -21,3 +26,8 @@ Masked (DeviceFound.Fault f) = Unit {0}
 abbrev pub Rooted : PageTableInfo → Type 0
 Rooted (Use t) = t .root < 2 ^ 44
 Rooted (PageTableInfo.Fault f) = Unit {0}
+
+-- step 11: "If DPE is 1 and there is no process_id associated with the transaction then let process_id be the default value of 0"
+abbrev pub wantedOf : DeviceContext → ProcessId → ProcessId
+wantedOf c (Given p) = Given p
+wantedOf c Absent = pick (dpe c) (Given 0) Absent

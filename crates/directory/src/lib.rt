@@ -22,8 +22,8 @@ ghost use Rattle.paging.specs.Within.{Within};
 ghost use Rattle.directory.specs.Pointers.{loadFault, invalid as invalidOf, misconfigured as misconfiguredOf, pointerOf, pointers, tooWide};
 ghost use Rattle.directory.specs.Fields.{modeOf, pageOf, bareOf, validMode, firstTable, secondTable, bareTable};
 ghost use Rattle.directory.specs.Device.{pdtv, dpe, deviceIndex, deviceMisconfigured, deviceContextAt, deviceContextOf};
-ghost use Rattle.directory.specs.Process.{wantedOf, processIndex, processMisconfigured, processContextAt, processReach, processContextOf, processTable, processTooWide, firstTableOf};
-ghost use Rattle.directory.specs.Sound.{Near, Masked, Rooted};
+ghost use Rattle.directory.specs.Process.{processIndex, processMisconfigured, processContextAt, processReach, processContextOf, processTable, processTooWide, firstTableOf};
+ghost use Rattle.directory.specs.Sound.{Near, Masked, Rooted, wantedOf};
 
 // The two directories.
 pub enum Tree {

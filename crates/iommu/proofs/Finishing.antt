@@ -20,7 +20,8 @@ use Rattle.iommu.specs.declared.Answer.{Answer}
 use Rattle.iommu.specs.declared.Answer.the-variants.{Stored, Discarded, Refused}
 use Rattle.iommu.specs.Refusals.{requestRefusal}
 use Rattle.iommu.specs.Translate.{translateOf}
-use Rattle.iommu.specs.Request.{reversed, identityOf, isWrite, storableAs, finish, storedBy, requestOf, afterRequest}
+use Rattle.causes.specs.Causes.{isWrite}
+use Rattle.iommu.specs.Request.{reversed, identityOf, storableAs, finish, storedBy, requestOf, afterRequest}
 use Rattle.iommu.specs.Bounds.{Accepted}
 use Rattle.iommu.proofs.Filing.{passed, stopped}
 

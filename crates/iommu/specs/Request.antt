@@ -1,6 +1,6 @@
 -- The whole request: the checks, the walk, and the finish; the answer, the bytes after, and the addresses read.
 use Prim.Native.Nat.{ℕ, _+_, _*_, _%_}
-use mathlib.Core.Bool.{Bool, true, false, _&&_, _||_}
+use mathlib.Core.Bool.{Bool, _&&_, _||_}
 use mathlib.Core.List.{List, []}
 use lib.Dec.{eqb, leb}
 use lib.ListN.{length}
@@ -8,8 +8,7 @@ use Rattle.memory.specs.Choice.{pick, unlessRefused}
 use Rattle.memory.specs.Bits.{bits}
 use Rattle.memory.specs.Window.{memory}
 use Rattle.memory.specs.Walk.{run, trace}
-use Rattle.causes.specs.declared.Access.{Access}
-use Rattle.causes.specs.declared.Access.the-variants.{Read, Write, Execute}
+use Rattle.causes.specs.Causes.{isWrite}
 use Rattle.interrupt_file.specs.File.{isFile, afterStore}
 use Rattle.iommu.specs.declared.Settings.{Settings}
 use Rattle.iommu.specs.declared.DeviceRequest.{DeviceRequest}
@@ -27,11 +26,6 @@ reversed d = bits d 7 0 * 0x1000000 + bits d 15 8 * 0x10000 + bits d 23 16 * 0x1
 -- "its identity the data value, at page offset 4 with the four bytes reversed"
 abbrev pub identityOf : DeviceRequest → ℕ → ℕ
 identityOf q d = pick (eqb (q .address % 4096) 4) (reversed d) d
-
-abbrev pub isWrite : Access → Bool
-isWrite Read = false
-isWrite Write = true
-isWrite Execute = false
 
 -- "Stored exactly when it is a 4-byte write at page offset 0 (little-endian) or 4 (big-endian) and the identity is at most 2,047"
 unfoldable pub storableAs : DeviceRequest → ℕ → Bool

@@ -22,7 +22,7 @@ ghost use Rattle.directory.specs.Fields.{bareOf};
 ghost use Rattle.iommu.specs.Refusals.{badWindow, badDirectory, badProcess, absent, badLength, requestRefusal, takeRefusal, reportRefusal};
 ghost use Rattle.iommu.specs.Answers.{numbers as numbersBy, numbersOf};
 ghost use Rattle.iommu.specs.Translate.{untranslated as untranslatedOf, onMessage, onSecond, isMessage, guestOf, stagesOf, onDevice, directoryOf, translateOf};
-ghost use Rattle.iommu.specs.Request.{reversed as reversedOf, identityOf, isWrite as isWriteOf, storableAs, finish as finishOf, storedBy, requestOf, afterRequest};
+ghost use Rattle.iommu.specs.Request.{reversed as reversedOf, identityOf, storableAs, finish as finishOf, storedBy, requestOf, afterRequest};
 ghost use Rattle.iommu.specs.Files.{takeOf, afterTakeOf, reportOf};
 ghost use Rattle.iommu.specs.Bounds.{Accepted, Takeable, Reportable};
 
@@ -390,22 +390,12 @@ fn identity(q: DeviceRequest, value: u32) -> u64
     value as u64
 }
 
-fn is_write(x: Access) -> bool
-    ensures { λ r. ⌜ r ≡ isWriteOf x ⌝ }
-{
-    match x {
-        Access::Read => false,
-        Access::Write => true,
-        Access::Execute => false,
-    }
-}
-
 // Whether an access under MRIF mode stores its message.
 fn storable(q: DeviceRequest, n: u64) -> bool
     ensures { λ r. ⌜ r ≡ storableAs q n ⌝ }
 {
     let x = q.access;
-    if is_write(x) {
+    if causes::is_write(x) {
         if q.length == 4 {
             let at = q.address % 4096;
             return ((at == 0) | (at == 4)) & (n <= 2047);

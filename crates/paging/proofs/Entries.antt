@@ -23,7 +23,8 @@ use Rattle.paging.specs.declared.Step.the-variants.{Stop}
 use Rattle.paging.specs.declared.Raw.{Raw}
 use Rattle.paging.specs.declared.Raw.the-variants.{Arrive, Unread}
 use Rattle.paging.specs.Purpose.{pageFaultOf, accessFaultOf}
-use Rattle.paging.specs.Tests.{soundBits, tableBits, permitOf, permitBits, leafBits, rawLoad, toStep, toldBy, writesOf, executesOf}
+use Rattle.causes.specs.Causes.{isWrite, isExecute}
+use Rattle.paging.specs.Tests.{soundBits, tableBits, permitOf, permitBits, leafBits, rawLoad, toStep, faultyEnd, toldBy}
 use Rattle.paging.specs.Entry.{leafOf, ownedBy}
 
 -- what a purpose's faults are
@@ -89,14 +90,14 @@ pub ruleset step-ways = (stepped-is, page-stop, access-stop)
 
 -- a walk's end, by its number
 module _ (p : Purpose) (x : Access) (r : ℕ) where
-  pub told-address : r < 9223372036854775808 → To r ≡ toldBy p x r
-  told-address h = simp (lt-ltb r 9223372036854775808 h)
+  pub told-address : r < faultyEnd → To r ≡ toldBy p x r
+  told-address h = simp (lt-ltb r faultyEnd h)
 
-  pub told-faulty : (f : FaultInfo) → 9223372036854775808 ≤ r → r ≡ 9223372036854775808 → f ≡ pageFaultOf p x → Fault f ≡ toldBy p x r
-  told-faulty f h z e = simp (e, le-ltb r 9223372036854775808 h, eq-eqb r 9223372036854775808 z)
+  pub told-faulty : (f : FaultInfo) → faultyEnd ≤ r → r ≡ faultyEnd → f ≡ pageFaultOf p x → Fault f ≡ toldBy p x r
+  told-faulty f h z e = simp (e, le-ltb r faultyEnd h, eq-eqb r faultyEnd z)
 
-  pub told-unread : (f : FaultInfo) → 9223372036854775808 ≤ r → (r ≡ 9223372036854775808 → ⊥) → f ≡ accessFaultOf p x → Fault f ≡ toldBy p x r
-  told-unread f h z e = simp (e, le-ltb r 9223372036854775808 h, ne-eqb r 9223372036854775808 z)
+  pub told-unread : (f : FaultInfo) → faultyEnd ≤ r → (r ≡ faultyEnd → ⊥) → f ≡ accessFaultOf p x → Fault f ≡ toldBy p x r
+  told-unread f h z e = simp (e, le-ltb r faultyEnd h, ne-eqb r faultyEnd z)
 
 pub ruleset told-ways = (told-address, told-faulty, told-unread)
 
@@ -109,7 +110,7 @@ own-supervisor user b e t h = ap not h ∙ simp t
 
 pub ruleset own-ways = (own-user, own-supervisor)
 
-permit-table : (x : Access) (r w y d : Bool) → ((executesOf x || r) && (not (writesOf x) || (w && d)) && (not (executesOf x) || y) && (r || not w)) ≡ permitOf x r w y d
+permit-table : (x : Access) (r w y d : Bool) → ((isExecute x || r) && (not (isWrite x) || (w && d)) && (not (isExecute x) || y) && (r || not w)) ≡ permitOf x r w y d
 permit-table Read true w y d = refl
 permit-table Read false w y d = refl
 permit-table Write true true y true = refl
@@ -118,7 +119,7 @@ permit-table Write true false y d = refl
 permit-table Write false w y d = refl
 permit-table Execute r w y d = refl
 
-pub permit-joined : (x : Access) (e : ℕ) (r w d y f g : Bool) → r ≡ bit e 1 → w ≡ bit e 2 → d ≡ bit e 7 → f ≡ executesOf x → g ≡ writesOf x → y ≡ bit e 3
+pub permit-joined : (x : Access) (e : ℕ) (r w d y f g : Bool) → r ≡ bit e 1 → w ≡ bit e 2 → d ≡ bit e 7 → f ≡ isExecute x → g ≡ isWrite x → y ≡ bit e 3
     → ((f || r) && (not g || (w && d)) && (not f || y) && (r || not w)) ≡ permitBits x e
 permit-joined x e r w d y f g hr hw hd hf hg hy = rw (hr, hw, hd, hf, hg, hy, permit-table x)
 

@@ -2,6 +2,8 @@
 use Prim.Native.Nat.{ℕ, zero, suc, _+_, _*_, _/_, _%_, _^_}
 use mathlib.Core.Bool.{Bool, true, false, not, _&&_}
 use mathlib.Core.Path.{_≡_, refl, ap, _∙_}
+use native.Mathlib.Omega.{arith}
+use borrow.Author.Tests.{lt-ltb}
 use lib.Dec.{eqb}
 use Rattle.memory.specs.Choice.{pick}
 use Rattle.memory.specs.Bits.{bit}
@@ -27,7 +29,7 @@ use Rattle.paging.specs.Purpose.{askedOf}
 use Rattle.paging.specs.Entry.{pageOf, kindOf, entryOf, permits, ownedBy, allows, mappedBy}
 use Rattle.paging.specs.Levels.{faulted, onEntry, onLoad, onStep, entryAt, levelOf, levels}
 use Rattle.paging.specs.Stages.{direct}
-use Rattle.paging.specs.Tests.{tableBits, permitOf, leafBits, rawLoad, toStep, toldOf, onRaw, rawLevels}
+use Rattle.paging.specs.Tests.{tableBits, permitOf, leafBits, rawLoad, toStep, toldOf, faultyEnd, codeOf, toldBy, onRaw, rawLevels, Tight}
 
 -- an entry's step, for the access k that the page must permit
 abbrev onKind : Lookup → ℕ → Access → Entry → Step
@@ -130,3 +132,10 @@ module _ (m : ℕ → Load) (s : Scheme) (q : Lookup) where
   raw-walk (suc n) table =
       raw-turn n (raw-walk n) (rawLoad (askedOf (q .purpose) (q .access)) (q .user) (q .address) n (m (entryAt s q n table)))
       ∙ ap (λ (k : Step). run m (onStep (levels s q direct n) k)) (tested q n (m (entryAt s q n table)))
+
+-- the number of a walk's end says what the end says
+pub coded : (p : Purpose) (x : Access) (r : Raw) → Tight r → toldBy p x (codeOf r) ≡ toldOf p x r
+coded p x (Arrive a) h = simp (lt-ltb a faultyEnd (omega arith))
+coded p x (Next t) h = refl
+coded p x Faulty h = refl
+coded p x Unread h = refl

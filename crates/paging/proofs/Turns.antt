@@ -3,7 +3,6 @@ use Prim.Native.Nat.{ℕ, suc, _+_, _-_, _*_, _<_, _≤_, _^_}
 use mathlib.Core.Bool.{Bool, true, false}
 use mathlib.Core.Path.{_≡_, refl, sym, ap, _∙_, subst}
 use native.Mathlib.Omega.{arith}
-use borrow.Author.Tests.{lt-ltb}
 use Rattle.memory.specs.declared.Load.{Load}
 use Rattle.memory.specs.Choice.{pick}
 use Rattle.memory.specs.Walk.{Walk, done, run}
@@ -26,8 +25,8 @@ use Rattle.paging.specs.Within.{Near, Within, Small}
 use Rattle.paging.specs.declared.Raw.{Raw}
 use Rattle.paging.specs.declared.Raw.the-variants.{Arrive, Unread}
 use Rattle.paging.specs.Purpose.{askedOf, pageFaultOf}
-use Rattle.paging.specs.Tests.{rawLoad, toStep, toldOf, codeOf, toldBy, onRaw, rawLevels, Tight}
-use Rattle.paging.proofs.Tested.{tested, raw-walk}
+use Rattle.paging.specs.Tests.{rawLoad, toStep, toldOf, faultyEnd, unreadEnd, codeOf, toldBy, onRaw, rawLevels, Tight}
+use Rattle.paging.proofs.Tested.{tested, raw-walk, coded}
 
 one-less : (left : ℕ) → 0 < left → suc (left - 1) ≡ left
 one-less left p = omega arith
@@ -74,54 +73,45 @@ pub ruleset level-ways = (level-stops, level-steps, stop-small, step-small)
 module _ (m : ℕ → Load) (s : Scheme) (x : Access) (user : Bool) (a left table i : ℕ) (v : Load) (r w : Raw)
     (p : 0 < left) (hi : i ≡ indexOf s a (left - 1)) (hv : v ≡ m (table * 4096 + 8 * i)) (hr : r ≡ rawLoad x user a (left - 1) v)
     (hw : run m (rawLevels s x user a left table) ≡ w) where
-  raw-turned : run m (onRaw (rawLevels s x user a (left - 1)) r) ≡ w
+  raw-turned : (k : Raw) → r ≡ k → run m (onRaw (rawLevels s x user a (left - 1)) k) ≡ w
   unfolding rawLevels
-  raw-turned =
-      ap (λ (k : Raw). run m (onRaw (rawLevels s x user a (left - 1)) k)) (hr ∙ ap (rawLoad x user a (left - 1)) (hv ∙ ap (λ (j : ℕ). m (table * 4096 + 8 * j)) hi))
+  raw-turned k e =
+      ap (λ (y : Raw). run m (onRaw (rawLevels s x user a (left - 1)) y)) (sym e ∙ hr ∙ ap (rawLoad x user a (left - 1)) (hv ∙ ap (λ (j : ℕ). m (table * 4096 + 8 * j)) hi))
       ∙ ap (λ (k : ℕ). run m (rawLevels s x user a k table)) (one-less left p)
       ∙ hw
 
   pub raw-goes : (k : ℕ) → r ≡ Raw.Next k → run m (rawLevels s x user a (left - 1) k) ≡ w
-  raw-goes k e = sym (ap (λ (y : Raw). run m (onRaw (rawLevels s x user a (left - 1)) y)) e) ∙ raw-turned
+  raw-goes k e = raw-turned (Raw.Next k) e
 
-  raw-arrived : (k : ℕ) → r ≡ Arrive k → Arrive k ≡ w
-  raw-arrived k e = sym (ap (λ (y : Raw). run m (onRaw (rawLevels s x user a (left - 1)) y)) e) ∙ raw-turned
-
-  raw-faulted : r ≡ Raw.Faulty → Raw.Faulty ≡ w
-  raw-faulted e = sym (ap (λ (y : Raw). run m (onRaw (rawLevels s x user a (left - 1)) y)) e) ∙ raw-turned
-
-  raw-unread : r ≡ Unread → Unread ≡ w
-  raw-unread e = sym (ap (λ (y : Raw). run m (onRaw (rawLevels s x user a (left - 1)) y)) e) ∙ raw-turned
-
-  -- the end as a number
+  -- the end, as a number and in its bounds
   pub code-arrived : (k : ℕ) → r ≡ Arrive k → k ≡ codeOf w
-  code-arrived k e = ap codeOf (raw-arrived k e)
+  code-arrived k e = ap codeOf (raw-turned (Arrive k) e)
+
+  pub code-faulted : r ≡ Raw.Faulty → faultyEnd ≡ codeOf w
+  code-faulted e = ap codeOf (raw-turned Raw.Faulty e)
+
+  pub code-unread : r ≡ Unread → unreadEnd ≡ codeOf w
+  code-unread e = ap codeOf (raw-turned Unread e)
 
   pub end-arrived : (k : ℕ) → r ≡ Arrive k → Tight r → Tight w
-  end-arrived k e h = subst Tight (e ∙ raw-arrived k e) h
-
-  pub code-faulted : r ≡ Raw.Faulty → 9223372036854775808 ≡ codeOf w
-  code-faulted e = ap codeOf (raw-faulted e)
+  end-arrived k e h = subst Tight (e ∙ raw-turned (Arrive k) e) h
 
   pub end-faulted : r ≡ Raw.Faulty → Tight w
-  end-faulted e = subst Tight (raw-faulted e) tt
-
-  pub code-unread : r ≡ Unread → 9223372036854775809 ≡ codeOf w
-  code-unread e = ap codeOf (raw-unread e)
+  end-faulted e = subst Tight (raw-turned Raw.Faulty e) tt
 
   pub end-unread : r ≡ Unread → Tight w
-  end-unread e = subst Tight (raw-unread e) tt
-
-raw-ends : (m : ℕ → Load) (s : Scheme) (x : Access) (user : Bool) (a left table : ℕ) (w : Raw) → left ≤ 0 → run m (rawLevels s x user a left table) ≡ w → Raw.Faulty ≡ w
-unfolding rawLevels
-raw-ends m s x user a left table w p hw = sym (ap (λ (k : ℕ). run m (rawLevels s x user a k table)) (none-left left p)) ∙ hw
+  end-unread e = subst Tight (raw-turned Unread e) tt
 
 module _ (m : ℕ → Load) (s : Scheme) (x : Access) (user : Bool) (a left table : ℕ) (w : Raw) (p : left ≤ 0) (hw : run m (rawLevels s x user a left table) ≡ w) where
-  pub code-ends : 9223372036854775808 ≡ codeOf w
-  code-ends = ap codeOf (raw-ends m s x user a left table w p hw)
+  no-leaf : Raw.Faulty ≡ w
+  unfolding rawLevels
+  no-leaf = sym (ap (λ (k : ℕ). run m (rawLevels s x user a k table)) (none-left left p)) ∙ hw
+
+  pub code-ends : faultyEnd ≡ codeOf w
+  code-ends = ap codeOf no-leaf
 
   pub end-ends : Tight w
-  end-ends = subst Tight (raw-ends m s x user a left table w p hw) tt
+  end-ends = subst Tight no-leaf tt
 
 pub raw-starts : (m : ℕ → Load) (s : Scheme) (x : Access) (user : Bool) (a left root : ℕ)
     → left ≡ levelsOf s → run m (rawLevels s x user a left root) ≡ run m (rawLevels s x user a (levelsOf s) root)
@@ -130,14 +120,7 @@ raw-starts m s x user a left root h = ap (λ (k : ℕ). run m (rawLevels s x use
 pub tight-next : (r : Raw) (k : ℕ) → r ≡ Raw.Next k → Tight r → k < 2 ^ 44
 tight-next r k e h = subst Tight e h
 
-pub ruleset raw-ways = (raw-goes, code-arrived, end-arrived, code-faulted, end-faulted, code-unread, end-unread, code-ends, end-ends, raw-starts, tight-next)
-
--- what the number says is what the end says
-coded : (p : Purpose) (x : Access) (r : Raw) → Tight r → toldBy p x (codeOf r) ≡ toldOf p x r
-coded p x (Arrive a) h = simp (lt-ltb a 9223372036854775808 (omega arith))
-coded p x (Raw.Next t) h = refl
-coded p x Raw.Faulty h = refl
-coded p x Unread h = refl
+pub ruleset raw-ways = (raw-goes, code-arrived, code-faulted, code-unread, code-ends, end-arrived, end-faulted, end-unread, end-ends, raw-starts, tight-next)
 
 -- a turn of the loop: `left` levels are left before it, and w is the answer of the whole walk
 module _ (m : ℕ → Load) (s : Scheme) (q : Lookup) (reach : ℕ → Walk Translation) (left table : ℕ) (t : Step) (w : Translation)

@@ -1,6 +1,6 @@
--- The walk as the code makes it: an entry by tests of its bits joined by `&`, and steps that carry no cause. Nothing that a reader has to believe: `paging.Tested.tested` and `paging.Tested.raw-walk` show that it says what `Entry` and `Levels` say.
+-- The walk as the code makes it: an entry by tests of its bits joined by `&`, and steps that carry no cause. Nothing that a reader has to believe: `paging.Tested.tested`, `paging.Tested.raw-walk` and `paging.Tested.coded` show that it says what `Entry` and `Levels` say.
 use Prim.Native.Nat.{ℕ, zero, suc, _+_, _*_, _/_, _%_, _^_, _<_}
-use mathlib.Core.Bool.{Bool, true, false, not, _&&_, _||_}
+use mathlib.Core.Bool.{Bool, not, _&&_, _||_}
 use lib.Dec.{eqb, ltb}
 use Rattle.memory.specs.Choice.{pick}
 use Rattle.memory.specs.Bits.{bit}
@@ -28,16 +28,6 @@ soundBits e = bit e 0 && eqb (e / 18014398509481984 % 1024) 0
 -- a non-leaf: no R, W, X, U, A, D
 unfoldable pub tableBits : ℕ → Bool
 tableBits e = soundBits e && not (bit e 1) && not (bit e 2) && not (bit e 3) && not (bit e 4) && not (bit e 6) && not (bit e 7)
-
-abbrev pub writesOf : Access → Bool
-writesOf Read = false
-writesOf Write = true
-writesOf Execute = false
-
-abbrev pub executesOf : Access → Bool
-executesOf Read = false
-executesOf Write = false
-executesOf Execute = true
 
 -- a leaf that permits an access, by R, W, X and D
 abbrev pub permitOf : Access → Bool → Bool → Bool → Bool → Bool
@@ -74,15 +64,20 @@ toldOf p x Faulty = Fault (pageFaultOf p x)
 toldOf p x Unread = Fault (accessFaultOf p x)
 
 -- the end of a walk as one number: an address, or one of two that no address is
+abbrev pub faultyEnd : ℕ
+faultyEnd = 9223372036854775808
+
+abbrev pub unreadEnd : ℕ
+unreadEnd = 9223372036854775809
+
 abbrev pub codeOf : Raw → ℕ
 codeOf (Arrive a) = a
-codeOf (Next table) = 9223372036854775808
-codeOf Faulty = 9223372036854775808
-codeOf Unread = 9223372036854775809
+codeOf (Next table) = faultyEnd
+codeOf Faulty = faultyEnd
+codeOf Unread = unreadEnd
 
 abbrev pub toldBy : Purpose → Access → ℕ → Translation
-toldBy p x r =
-    pick (ltb r 9223372036854775808) (To r) (pick (eqb r 9223372036854775808) (Fault (pageFaultOf p x)) (Fault (accessFaultOf p x)))
+toldBy p x r = pick (ltb r faultyEnd) (To r) (pick (eqb r faultyEnd) (Fault (pageFaultOf p x)) (Fault (accessFaultOf p x)))
 
 abbrev pub onRaw : (ℕ → Walk Raw) → Raw → Walk Raw
 onRaw next (Next table) = next table

@@ -15,7 +15,7 @@ ghost use Rattle.paging.specs.Entry.{leafOf, ownedBy};
 ghost use Rattle.paging.specs.Levels.{faulted as faultedOf, levelOf, levels as levelsFrom};
 ghost use Rattle.paging.specs.Stages.{secondStageOf, entryReach, firstStageOf};
 ghost use Rattle.paging.specs.Within.{Within, Small};
-ghost use Rattle.paging.specs.Tests.{soundBits, tableBits, permitBits, leafBits, rawLoad, rawLevels, toStep, codeOf, toldBy, Tight, writesOf, executesOf};
+ghost use Rattle.paging.specs.Tests.{soundBits, tableBits, permitBits, leafBits, rawLoad, rawLevels, toStep, codeOf, toldBy, Tight};
 
 // The page-table schemes (01, "Fixed capabilities").
 pub enum Scheme {
@@ -194,26 +194,6 @@ fn owned(user: bool, e: u64) -> bool
     }
 }
 
-fn writes(x: Access) -> bool
-    ensures { λ r. ⌜ r ≡ writesOf x ⌝ }
-{
-    match x {
-        Access::Read => false,
-        Access::Write => true,
-        Access::Execute => false,
-    }
-}
-
-fn executes(x: Access) -> bool
-    ensures { λ r. ⌜ r ≡ executesOf x ⌝ }
-{
-    match x {
-        Access::Read => false,
-        Access::Write => false,
-        Access::Execute => true,
-    }
-}
-
 // No branch by the access: reads and writes come mixed, and a branch would be guessed wrong.
 fn permitted(x: Access, e: u64) -> bool
     ensures { λ r. ⌜ r ≡ permitBits x e ⌝ }
@@ -221,8 +201,8 @@ fn permitted(x: Access, e: u64) -> bool
     let r = memory::bit(e, 1);
     let w = memory::bit(e, 2);
     let d = memory::bit(e, 7);
-    let run = executes(x);
-    (run | r) & (!writes(x) | (w & d)) & (!run | memory::bit(e, 3)) & (r | !w)
+    let execute = causes::is_execute(x);
+    (execute | r) & (!causes::is_write(x) | (w & d)) & (!execute | memory::bit(e, 3)) & (r | !w)
 }
 
 // A leaf whose page permits an access.

@@ -13,11 +13,11 @@ bit-requires-2 c κs = search needs
 bit-requires-3 : tie.Need-bit-requires-3
 bit-requires-3 c κs = search needs
 
-executes-requires : tie.Need-executes-requires
-executes-requires c κs = search needs
+is-execute-requires : tie.Need-is-execute-requires
+is-execute-requires c κs = search needs
 
-writes-requires : tie.Need-writes-requires
-writes-requires c κs = search needs
+is-write-requires : tie.Need-is-write-requires
+is-write-requires c κs = search needs
 
 bit-requires-4 : tie.Need-bit-requires-4
 bit-requires-4 c κs = search needs
@@ -32,7 +32,7 @@ permitted-spec =
     bit-requires
     bit-requires-2
     bit-requires-3
-    executes-requires
-    writes-requires
+    is-execute-requires
+    is-write-requires
     bit-requires-4
     returns)
