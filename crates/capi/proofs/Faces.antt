@@ -1,19 +1,13 @@
 -- The face, by the tests that the code makes. Assumes nothing.
-use Prim.Native.Nat.{ℕ, zero, suc, _+_, _*_, _%_, _<_, _≤_}
+use Prim.Native.Nat.{ℕ, _%_, _<_, _≤_}
 use mathlib.Core.List.{List}
-use mathlib.Core.Path.{_≡_, refl, sym, ap, _∙_}
+use mathlib.Core.Path.{_≡_, sym, ap, _∙_}
 use lib.Dec.{leb}
-use native.Mathlib.Numerals.{add-one}
-use native.Mathlib.Omega.{arith}
-use lib.ListN.{length, set, getD, length-set}
+use lib.ListN.{length, set}
 use borrow.Author.Tests.{lt-ltb, le-ltb, ne-eqb}
 use Rattle.causes.specs.declared.Access.{Access}
-use Rattle.causes.specs.declared.Stage.{Stage}
-use Rattle.causes.specs.declared.FaultInfo.{FaultInfo}
 use Rattle.directory.specs.declared.ProcessId.{ProcessId}
 use Rattle.directory.specs.declared.ProcessId.the-variants.{Absent, Given}
-use Rattle.iommu.specs.declared.Settings.{Settings}
-use Rattle.iommu.specs.declared.DeviceRequest.{DeviceRequest}
 use Rattle.iommu.specs.declared.Answer.{Answer}
 use Rattle.iommu.specs.declared.Answer.the-variants.{Refused}
 use Rattle.iommu.specs.declared.Numbers.{Numbers}

@@ -13,7 +13,6 @@ use lib.ListN.{length, set, getD, length-set, length-append, replicate, getD-rep
 use lib.Seq.{getD-at}
 use Rattle.memory.specs.Window.{doubleword}
 use Rattle.interrupt_file.specs.declared.Pair.{Pair}
-use Rattle.interrupt_file.specs.declared.Report.{Report}
 use Rattle.interrupt_file.specs.Report.{pairOf, pairsOf, countOf, fileReport, refusedReport}
 use Rattle.iommu.specs.Files.{reportOf}
 use Rattle.iommu.specs.Refusals.{reportRefusal}

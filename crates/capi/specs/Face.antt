@@ -16,7 +16,6 @@ use Rattle.iommu.specs.declared.Settings.{Settings}
 use Rattle.iommu.specs.declared.DeviceRequest.{DeviceRequest}
 use Rattle.iommu.specs.declared.Answer.{Answer}
 use Rattle.iommu.specs.declared.Answer.the-variants.{Translated, Redirected, Stored, Discarded, Fault, Refused, Taken}
-use Rattle.iommu.specs.declared.Numbers.{Numbers}
 use Rattle.iommu.specs.Answers.{numbersOf}
 use Rattle.iommu.specs.Request.{requestOf, afterRequest}
 use Rattle.capi.specs.declared.Chosen.{Chosen}

@@ -7,7 +7,7 @@ use iommu::Settings;
 ghost use mathlib.Core.Path.{_≡_};
 ghost use Prim.Native.Nat.{_≤_, _+_};
 ghost use lib.ListN.{length as lengthOf};
-ghost use Rattle.capi.specs.Face.{stageOf, withAnswer, withPairs, withReport, chosenOf, processOf, supervisorOf, requestFace, afterFace, status, fitting};
+ghost use Rattle.capi.specs.Face.{stageOf, withAnswer, withPairs, withReport, chosenOf, processOf, requestFace, afterFace, status, fitting};
 ghost use Rattle.capi.specs.Words.{spanOf, wordIn, pairIn, onesIn};
 ghost use Rattle.iommu.specs.Bounds.{Reportable};
 ghost use Rattle.iommu.specs.Files.{takeOf, afterTakeOf, reportOf};

@@ -9,7 +9,6 @@ use Rattle.memory.specs.declared.Load.{Load}
 use Rattle.memory.specs.declared.Load.the-variants.{Value, Violation}
 use Rattle.memory.specs.Walk.{Walk, done, load, bind}
 use Rattle.causes.specs.Causes.{faultAt}
-use Rattle.causes.specs.declared.Stage.{Stage}
 use Rattle.causes.specs.declared.Stage.the-variants.{Directory, ProcessDirectory}
 use Rattle.causes.specs.declared.FaultInfo.{FaultInfo}
 use Rattle.paging.specs.declared.Translation.{Translation}

@@ -11,7 +11,6 @@ use Rattle.interrupt_file.specs.File.{isFile, pendingOf, afterTake}
 use Rattle.interrupt_file.specs.Report.{fileReport, refusedReport}
 use Rattle.interrupt_file.specs.declared.Report.{Report}
 use Rattle.memory.specs.Choice.{unlessRefused}
-use Rattle.iommu.specs.declared.Answer.{Answer}
 use Rattle.iommu.specs.declared.Answer.the-variants.{Refused, Taken}
 use Rattle.iommu.specs.Refusals.{badWindow, takeRefusal, reportRefusal}
 use Rattle.iommu.specs.Files.{takeOf, afterTakeOf, reportOf}

@@ -9,7 +9,6 @@ use lib.ListN.{length}
 use borrow.Author.Tests.{eq-eqb, ne-eqb, leb-true}
 use Rattle.memory.specs.Window.{memory}
 use Rattle.memory.specs.Walk.{run}
-use Rattle.causes.specs.declared.Access.{Access}
 use Rattle.causes.specs.declared.FaultInfo.{FaultInfo}
 use Rattle.interrupt_file.specs.File.{isFile, afterStore}
 use Rattle.message.specs.declared.Destination.{Destination}

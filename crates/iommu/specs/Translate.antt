@@ -7,7 +7,6 @@ use Rattle.memory.specs.Walk.{Walk, done, bind}
 use Rattle.causes.specs.Causes.{accessFault, faultAt, disallowed}
 use Rattle.causes.specs.declared.Access.{Access}
 use Rattle.causes.specs.declared.Stage.the-variants.{Directory}
-use Rattle.causes.specs.declared.FaultInfo.{FaultInfo}
 use Rattle.paging.specs.declared.PageTable.{PageTable}
 use Rattle.paging.specs.declared.Purpose.the-variants.{SecondStage}
 use Rattle.paging.specs.declared.Translation.{Translation}

@@ -16,7 +16,6 @@ use Rattle.causes.specs.declared.Access.the-variants.{Read, Write, Execute}
 use Rattle.causes.specs.declared.Stage.{Stage}
 use Rattle.causes.specs.declared.FaultInfo.{FaultInfo}
 use Rattle.paging.specs.declared.Purpose.{Purpose}
-use Rattle.paging.specs.declared.Translation.{Translation}
 use Rattle.paging.specs.declared.Translation.the-variants.{To, Fault}
 use Rattle.paging.specs.declared.Step.{Step}
 use Rattle.paging.specs.declared.Step.the-variants.{Stop}

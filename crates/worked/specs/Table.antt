@@ -11,8 +11,6 @@ use Rattle.directory.specs.Device.{deviceIndex}
 use Rattle.directory.specs.Process.{processIndex}
 use Rattle.directory.specs.declared.ProcessId.the-variants.{Absent, Given}
 use Rattle.message.specs.Recognition.{extract, recognised, fileNumber}
-use Rattle.iommu.specs.declared.Settings.{Settings}
-use Rattle.iommu.specs.declared.DeviceRequest.{DeviceRequest}
 use Rattle.iommu.specs.declared.Answer.{Answer}
 use Rattle.iommu.specs.declared.Answer.the-variants.{Translated, Redirected, Stored, Discarded, Fault, Refused, Taken}
 use Rattle.iommu.specs.declared.Numbers.{Numbers}
