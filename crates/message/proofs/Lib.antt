@@ -1,2 +1,3 @@
-pub mod Packing
+pub mod Runs
+pub mod Rounds
 pub mod Entries

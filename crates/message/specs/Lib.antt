@@ -1,2 +1,3 @@
 pub mod Recognition
+pub mod Rounds
 pub mod Table

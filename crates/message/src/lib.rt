@@ -4,11 +4,13 @@ use causes::FaultInfo;
 use causes::Stage;
 use memory::Load;
 ghost use mathlib.Core.Path.{_≡_};
-ghost use Prim.Native.Nat.{_*_, _%_, _^_, _<_};
+ghost use Prim.Native.Nat.{_*_, _%_, _^_, _<_, _≤_};
+ghost use lib.Count.{ones};
 ghost use lib.Dec.{eqb};
 ghost use Rattle.memory.specs.Window.{memory};
 ghost use Rattle.memory.specs.Walk.{run};
 ghost use Rattle.message.specs.Recognition.{recognised as recognisedOf, extract as extractOf};
+ghost use Rattle.message.specs.Rounds.{Ready, roundOf, rounds};
 ghost use Rattle.message.specs.Table.{alignment, tableFault, permitted as permittedOf, translateReserved, recordReserved, destinationOf, onTranslate, onNotice, onEntry, messageOf};
 
 // Where an entry in MRIF mode has a message recorded, and the notice that it asks for: a number to be written at an address.
@@ -25,6 +27,19 @@ pub enum Message {
     Fault(FaultInfo),
 }
 
+// Packing under way: the number so far, how many of its places are taken, and the ones of the mask that are left.
+pub struct Packing {
+    pub number: u64,
+    pub used: u32,
+    pub rest: u64,
+}
+
+// A packed number and how many rounds made it; the count is for the promise alone, and the compiler drops it.
+pub struct Counted {
+    pub number: u64,
+    pub rounds: u32,
+}
+
 // Whether a guest address is one of a virtual interrupt file: its page number has the pattern in each bit that the mask leaves out.
 pub fn recognised(mask: u64, pattern: u64, a: u64) -> bool
     ensures { λ r. ⌜ r ≡ recognisedOf mask pattern a ⌝ }
@@ -33,28 +48,55 @@ pub fn recognised(mask: u64, pattern: u64, a: u64) -> bool
     page - (page & mask) == pattern - (pattern & mask)
 }
 
+// One round of packing, without a loop: the lowest run of ones in the rest of the mask. A one added at its start is carried through it.
+fn round(x: u64, p: Packing) -> Packing
+    requires { ⌜ Ready x p ⌝ }
+    ensures { λ r. ⌜ r ≡ roundOf x p ⌝ }
+{
+    let start = u64::trailing_zeros(p.rest);
+    let over = p.rest + (1u64 << start);
+    let end = u64::trailing_zeros(over);
+    let rest = p.rest & over;
+    let run = p.rest - rest;
+    Packing {
+        number: p.number + ((x & run) >> (start - p.used)),
+        used: p.used + (end - start),
+        rest: rest,
+    }
+}
+
+// The bits of x that the mask picks, packed in their order, in at most as many rounds as the mask has ones.
+fn pack(x: u64, mask: u64) -> Counted
+    ensures { λ r. ⌜ (r .number ≡ extractOf x mask) × (r .number ≡ rounds (r .rounds) x mask .number) × (r .rounds ≤ ones mask) ⌝ }
+{
+    let most = u64::count_ones(mask);
+    let mut left = most;
+    let mut p = Packing {
+        number: 0,
+        used: 0,
+        rest: mask % 4503599627370496,
+    };
+    while 0 < left {
+        if p.rest == 0 {
+            return Counted {
+                number: p.number,
+                rounds: most - left,
+            };
+        }
+        p = round(x, p);
+        left -= 1;
+    }
+    Counted {
+        number: p.number,
+        rounds: most,
+    }
+}
+
 // The bits of x that the mask picks, packed in their order.
 pub fn extract(x: u64, mask: u64) -> u64
     ensures { λ r. ⌜ (r ≡ extractOf x mask) × (r < 2 ^ 52) ⌝ }
 {
-    let mut bits = x;
-    let mut rest = mask;
-    let mut packed: u64 = 0;
-    let mut place: u64 = 1;
-    let mut left: u64 = 52;
-    while 0 < left {
-        if rest == 0 {
-            return packed;
-        }
-        left -= 1;
-        if rest % 2 == 1 {
-            packed += place * (bits % 2);
-            place *= 2;
-        }
-        bits /= 2;
-        rest /= 2;
-    }
-    packed
+    pack(x, mask).number
 }
 
 // Whether a table at a page is aligned for as many files as the mask can number.

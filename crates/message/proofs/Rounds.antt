@@ -1,0 +1,233 @@
+-- Packing by rounds: each takes the lowest run of ones that is left of the mask, and as many rounds as the mask has ones are enough. Assumes nothing.
+use Prim.Native.Nat.{ℕ, zero, suc, _+_, _-_, _*_, _/_, _%_, _^_, _≤_, _<_}
+use mathlib.Core.Path.{_≡_, refl, sym, ap, _∙_}
+use mathlib.Core.Logic.{⊎-elim}
+use native.Mathlib.Nat.{mul-zero, mul-add, mul-assoc, mul-comm, pow-suc, mod-lt, sub-zero, mul-div-cancel, eq-zero-or-pos}
+use native.Mathlib.Omega.{arith}
+use lib.Bits.{bitAnd, and-le-l, and-high}
+use lib.Count.{ones, ones-cat, ones-le, trailingZeros, trailing-of-zero}
+use lib.Pow.{pow-pos, pow-add, pow-mono, split}
+use Rattle.message.specs.Recognition.{packed, extract}
+use Rattle.message.specs.declared.Packing.{Packing}
+use Rattle.message.specs.Rounds.{startOf, endOf, roundOf, Ready, beginning, rounds}
+use Rattle.message.proofs.Runs.{parity, halved, packed-even, packed-odd, after, Lowest, lowest}
+
+-- no more than n bits are packed
+packed-below : (n x y : ℕ) → packed n x y < 2 ^ n
+unfolding packed
+packed-below zero x y = omega arith
+packed-below (suc n) x y =
+    let less = packed-below n (x / 2) (y / 2) in
+    ⊎-elim
+    (λ even. rw (packed-even y even n x) (omega (arith, less, pow-suc 2 n)))
+    (λ odd. rw (packed-odd y odd n x) (omega (arith, less, pow-suc 2 n)))
+    (parity y)
+
+-- bits above bit n don't count
+packed-low : (n x y : ℕ) → packed n x (y % 2 ^ n) ≡ packed n x y
+unfolding packed
+packed-low zero x y = refl
+packed-low (suc n) x y =
+    let z = y % 2 ^ suc n in
+    let bit : z % 2 ≡ y % 2 = omega (arith, halved y n) in
+    let half : z / 2 ≡ y / 2 % 2 ^ n = omega (arith, halved y n) in
+    rw (bit, half, packed-low n (x / 2) (y / 2))
+
+pub extract-below : (x mask : ℕ) → extract x mask < 2 ^ 52
+unfolding extract
+extract-below x mask = packed-below 52 x mask
+
+packed-none : (n x : ℕ) → packed n x 0 ≡ 0
+unfolding packed
+packed-none zero x = refl
+packed-none (suc n) x = packed-none n (x / 2)
+
+-- packing under way: what is packed and, above it, the packing of the rest make the whole; no more than `left` ones are left
+pub record Partial (x mask left : ℕ) (p : Packing) : Type 0 where
+  pub sum : p .number + 2 ^ p .used * packed 52 x (p .rest) ≡ extract x mask
+  pub small : p .rest < 2 ^ 52
+  pub room : p .used ≤ startOf (p .rest)
+  pub few : ones (p .rest) ≤ left
+
+pub starts : (x mask : ℕ) → Partial x mask (ones mask) (beginning mask)
+unfolding extract
+starts x mask =
+    record {
+      sum = rw (packed-low 52 x mask) (omega arith);
+      small = omega arith;
+      room = omega arith;
+      few = omega (arith, sym (ap ones (split mask 52)) ∙ ones-cat 52 (mask / 2 ^ 52) (mask % 2 ^ 52) (mod-lt mask (pow-pos 52)));
+    }
+
+end-of-none : endOf 0 ≡ 64
+unfolding trailingZeros
+end-of-none = refl
+
+-- a run is packed at place u, and the rest above it
+placed : (u w v rest : ℕ) → 2 ^ u * (v + 2 ^ w * rest) ≡ 2 ^ u * v + 2 ^ (u + w) * rest
+placed u w v rest =
+    mul-add (2 ^ u) v (2 ^ w * rest)
+    ∙ ap (λ k. 2 ^ u * v + k) (sym (mul-assoc (2 ^ u) (2 ^ w) rest) ∙ ap (λ k. k * rest) (sym (pow-add 2 u w)))
+
+module _ {x mask left : ℕ} {p : Packing} (q : Partial x mask left p) where
+  whole : p .number ≤ extract x mask
+  whole = omega (arith, q .sum)
+
+  module _ (h : 0 < p .rest) where
+    pub run : Lowest 52 64 x (p .rest)
+    run = lowest 52 64 x (p .rest) (omega arith) (q .small) h
+
+    pub turns : Partial x mask (left - 1) (roundOf x p)
+    turns =
+        let r = run .0 in
+        let s = startOf (p .rest) in
+        let e = endOf (p .rest) in
+        let rest = packed 52 x (after (p .rest) s e) in
+        let v = x / 2 ^ s % 2 ^ (e - s) in
+        let run-sum : 2 ^ p .used * packed 52 x (p .rest) ≡ 2 ^ p .used * v + 2 ^ (p .used + (e - s)) * rest = ap (λ k. 2 ^ p .used * k) (r .packing) ∙ placed (p .used) (e - s) v rest in
+        record {
+          sum = omega (arith, q .sum, run-sum);
+          small = omega (arith, pow-mono (r .order), q .small);
+          room = omega (arith, r .order, r .next, q .room);
+          few = omega (arith, r .count, run .1, q .few);
+        }
+
+  -- where nothing is left a round changes nothing
+  idles : p .rest ≡ 0 → Partial x mask (left - 1) (roundOf x p)
+  idles e =
+      let s : startOf (p .rest) ≡ 64 = ap startOf e ∙ trailing-of-zero 64 in
+      let t : endOf (p .rest) ≡ 64 = ap endOf e ∙ end-of-none in
+      let bits : x / 2 ^ startOf (p .rest) % 2 ^ (endOf (p .rest) - startOf (p .rest)) ≡ 0 = rw (t, s) (omega arith) in
+      let number : roundOf x p .number ≡ p .number = rw (bits, mul-zero) (omega arith) in
+      let used : roundOf x p .used ≡ p .used = rw (t, s) (omega arith) in
+      let rest : roundOf x p .rest ≡ p .rest = rw (t, s) (omega arith) in
+      record {
+        sum = rw (number, used, rest) (q .sum);
+        small = rw rest (q .small);
+        room = rw (used, rest) (q .room);
+        few = rw (rest, e) (omega (arith, ones-le 0 0 (omega arith)));
+      }
+
+  pub turned : Partial x mask (left - 1) (roundOf x p)
+  turned = ⊎-elim idles turns (eq-zero-or-pos (p .rest))
+
+  pub done : p .rest ≡ 0 → p .number ≡ extract x mask
+  done e = omega (arith, rw (e, packed-none, mul-zero) at (q .sum))
+
+  -- a number that still has a one has a run
+  pub emptied : left ≡ 0 → p .rest ≡ 0
+  emptied e = ⊎-elim (λ z. z) (λ h. absurd (omega (arith, run h .0 .count, run h .1, q .few))) (eq-zero-or-pos (p .rest))
+
+pub reached : (n x mask : ℕ) → Partial x mask (ones mask - n) (rounds n x mask)
+unfolding rounds
+reached zero x mask = rw sub-zero (starts x mask)
+reached (suc n) x mask =
+    let same : ones mask - n - 1 ≡ ones mask - suc n = omega arith in
+    rw same at (turned (reached n x mask))
+
+-- as many rounds as the mask has ones give the packed number
+pub enough : (x mask : ℕ) → rounds (ones mask) x mask .number ≡ extract x mask
+enough x mask = let q = reached (ones mask) x mask in done q (emptied q (omega arith))
+
+-- and one fewer is not always enough: of the mask 101
+pub one-short : (rounds 1 5 5 .number ≡ 1) × (rounds 2 5 5 .number ≡ 3) × (extract 5 5 ≡ 3)
+unfolding rounds trailingZeros extract
+one-short = (refl, refl, refl)
+
+-- what `message::round` computes, for a packing under way
+module _ (x : ℕ) (p : Packing) (h : Ready x p) where
+  abbrev s : ℕ
+  s = startOf (p .rest)
+
+  abbrev e : ℕ
+  e = endOf (p .rest)
+
+  run-of : Lowest 52 64 x (p .rest)
+  run-of = lowest 52 64 x (p .rest) (omega arith) (h .1) (h .0)
+
+  pub start-below : s < 52
+  start-below = omega (arith, run-of .1, run-of .0 .bound)
+
+  pub end-above : s ≤ e
+  end-above = run-of .0 .order
+
+  pub end-below : e ≤ 52
+  end-below = run-of .0 .bound
+
+  -- the one added at the run's start, as a doubleword has it
+  abbrev over : ℕ
+  over = p .rest + 1 * 2 ^ s % 2 ^ 64
+
+  one-fits : 2 ^ s ≤ 2 ^ 52
+  one-fits = pow-mono {i = s} {j = 52} (omega (arith, start-below))
+
+  over-is : over ≡ p .rest + 2 ^ s
+  over-is = omega (arith, one-fits, h .1)
+
+  pub over-fits : over < 2 ^ 64
+  over-fits = omega (arith, one-fits, h .1)
+
+  pub over-end : s ≤ trailingZeros 64 over
+  over-end = rw over-is end-above
+
+  pub used-fits : p .used + (trailingZeros 64 over - s) < 2 ^ 32
+  used-fits = rw over-is (omega (arith, start-below, end-below, h .2))
+
+  pub rest-is : bitAnd (p .rest) over ≡ roundOf x p .rest
+  rest-is = rw over-is (run-of .0 .meet)
+
+  pub run-fits : bitAnd (p .rest) over ≤ p .rest
+  run-fits = and-le-l (p .rest) over
+
+  -- the run's bits of x, moved down to their place
+  moved : bitAnd x (p .rest - after (p .rest) s e) / 2 ^ (s - p .used) ≡ 2 ^ p .used * (x / 2 ^ s % 2 ^ (e - s))
+  moved =
+      let v = x / 2 ^ s % 2 ^ (e - s) in
+      let top : e - s + s ≡ e = omega (arith, end-above) in
+      let mask : p .rest - after (p .rest) s e ≡ 2 ^ (e - s + s) - 2 ^ s = rw top (omega (arith, run-of .0 .inside, pow-mono end-above)) in
+      let gap : p .used + (s - p .used) ≡ s = omega (arith, h .2) in
+      let lower : 2 ^ s ≡ 2 ^ p .used * 2 ^ (s - p .used) = ap (λ k. 2 ^ k) (sym gap) ∙ pow-add 2 (p .used) (s - p .used) in
+      let value : v * 2 ^ s ≡ 2 ^ p .used * v * 2 ^ (s - p .used) = ap (λ k. v * k) lower ∙ sym (mul-assoc v (2 ^ p .used) (2 ^ (s - p .used))) ∙ ap (λ k. k * 2 ^ (s - p .used)) (mul-comm v (2 ^ p .used)) in
+      rw (mask, and-high x (e - s) s, value) (mul-div-cancel (2 ^ p .used * v) (pow-pos (s - p .used)))
+
+  pub number-is : p .number + bitAnd x (p .rest - bitAnd (p .rest) over) / 2 ^ (s - p .used) ≡ roundOf x p .number
+  number-is = rw (rest-is, moved)
+
+  pub used-is : p .used + (trailingZeros 64 over - s) ≡ roundOf x p .used
+  used-is = rw over-is
+
+-- a packing with so many rounds left of as many as the mask has ones
+pub record Counting (x mask left : ℕ) (p : Packing) : Type 0 where
+  pub so-far : p ≡ rounds (ones mask - left) x mask
+  pub within : left ≤ ones mask
+
+pub begins : (x mask : ℕ) → Counting x mask (ones mask) (beginning mask)
+unfolding rounds
+begins x mask = let none-done : ones mask - ones mask ≡ 0 = omega arith in record { so-far = rw none-done; within = omega arith }
+
+module _ {x mask left : ℕ} {p : Packing} (k : Counting x mask left p) where
+  partial : Partial x mask (ones mask - (ones mask - left)) p
+  partial = rw (k .so-far) (reached (ones mask - left) x mask)
+
+  pub ready : (p .rest ≡ 0 → ⊥) → Ready x p
+  ready h =
+      let r : 0 < p .rest = omega arith in
+      (r, partial .small, partial .room, omega (arith, whole (turned partial), extract-below x mask))
+
+  pub again : 0 < left → (q : Packing) → q ≡ roundOf x p → Counting x mask (left - 1) q
+  unfolding rounds
+  again h q e =
+      let one-more : ones mask - (left - 1) ≡ suc (ones mask - left) = omega (arith, k .within) in
+      record { so-far = rw one-more (e ∙ ap (roundOf x) (k .so-far)); within = omega (arith, k .within) }
+
+  -- what the routine promises of the number and the rounds
+  abbrev Packs : ℕ → ℕ → Type 0
+  Packs number n = (number ≡ extract x mask) × (number ≡ rounds n x mask .number) × (n ≤ ones mask)
+
+  pub stops : p .rest ≡ 0 → Packs (p .number) (ones mask - left)
+  stops e = (done partial e, ap (λ r. r .number) (k .so-far), omega arith)
+
+  pub ends : left ≤ 0 → Packs (p .number) (ones mask)
+  ends h =
+      let all : ones mask - left ≡ ones mask = omega arith in
+      rw all at (stops (emptied partial (omega arith)))
