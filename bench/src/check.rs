@@ -2,7 +2,7 @@
 
 use crate::call::{Numbers, Settings};
 use crate::plain::{self, Access};
-use crate::proved::{self, Raw};
+use crate::proved::{now, Raw};
 use yasmurekh_reference::generate::{list, Call, List};
 use yasmurekh_reference::types as reference;
 
@@ -26,7 +26,7 @@ fn answers(start: u64, windows: &mut [Vec<u8>; 3], call: &Call) -> [Numbers; 3] 
     match *call {
         Call::Take { file, identity } => [
             numbers(yasmurekh_reference::take(start, first, file, identity)),
-            proved::take(start, second, file, identity),
+            now::take(start, second, file, identity),
             plain::take(start, third, file, identity).numbers(),
         ],
         Call::Request {
@@ -58,7 +58,7 @@ fn answers(start: u64, windows: &mut [Vec<u8>; 3], call: &Call) -> [Numbers; 3] 
             let theirs = reference::Settings { start, mode, root };
             [
                 numbers(yasmurekh_reference::request(&theirs, first, &request, data)),
-                proved::request(&settings, second, &raw),
+                now::request(&settings, second, &raw),
                 plain::request(start, third, mode, root, &asked).numbers(),
             ]
         }

@@ -1,22 +1,37 @@
 //! The proved library against a plain Rust program of the same job, in one run.
 //!
 //!     bench [--quick]                  compare, measure, print the tables
-//!     bench alone ROW proved|plain N   run one row N times on one side, for instruction counts
+//!     bench before [--quick] TEXT      rows with that text in their names, on the archive of an
+//!                                      earlier commit too; made by `bench/before`
+//!     bench alone ROW SIDE N           run one row N times on one side (proved, plain, before), for
+//!                                      instruction counts
 
 mod call;
 mod check;
 mod clock;
 mod measure;
 mod plain;
+mod program;
 mod proved;
 mod rows;
 mod tables;
 
-use measure::{Side, Times};
+use measure::{side, Side, Times};
+use program::{Plain, Proved};
 use rows::Row;
 use std::env;
 use std::process::ExitCode;
 use std::slice;
+
+const PROVED: Side = side::<Proved>("proved");
+const PLAIN: Side = side::<Plain>("plain");
+const BOTH: [Side; 2] = [PROVED, PLAIN];
+const ALL: &[Side] = &[
+    PROVED,
+    PLAIN,
+    #[cfg(before)]
+    side::<program::Before>("before"),
+];
 
 /// How much is measured.
 struct Effort {
@@ -44,8 +59,13 @@ fn main() -> ExitCode {
     let done = match words[..] {
         [] => measure_all(&FULL),
         ["--quick"] => measure_all(&QUICK),
+        ["before", text] => measure_before(&FULL, text),
+        ["before", "--quick", text] => measure_before(&QUICK, text),
         ["alone", row, side, times] => alone(row, side, times),
-        _ => Err("usage: bench [--quick] | bench alone ROW proved|plain N".to_string()),
+        _ => Err(
+            "usage: bench [--quick] | bench before [--quick] TEXT | bench alone ROW SIDE N"
+                .to_string(),
+        ),
     };
     match done {
         Ok(()) => ExitCode::SUCCESS,
@@ -64,10 +84,12 @@ fn measure_all(effort: &Effort) -> Result<(), String> {
     println!("| Row | proved, ns | plain, ns | ratio | least to greatest |");
     println!("|---|---|---|---|---|");
     for row in rows::main_rows() {
-        measure::compare(&row)?;
-        for times in measure::time(slice::from_ref(&row), effort.rounds, effort.nanoseconds) {
-            println!("| {} | {} |", row.name, columns(&times));
-        }
+        measure::compare(&row, &BOTH)?;
+        println!(
+            "| {} | {} |",
+            row.name,
+            columns(&time_one(&row, &BOTH, effort))
+        );
     }
     println!(
         "\nThe same tables in windows of several sizes (both stages, 4 KiB / 4 KiB, one device):\n"
@@ -85,11 +107,22 @@ fn measure_all(effort: &Effort) -> Result<(), String> {
     Ok(())
 }
 
+/// A row by itself.
+fn time_one(row: &Row, sides: &[Side], effort: &Effort) -> Times {
+    let rows = slice::from_ref(row);
+    let mut times = measure::time(rows, sides, effort.rounds, effort.nanoseconds);
+    times.remove(0)
+}
+
+/// A ratio and its spread.
+fn ratio([middle, least, greatest]: [f64; 3]) -> String {
+    format!("{middle:.2} | {least:.2} to {greatest:.2}")
+}
+
 /// Proved, plain, ratio and its spread.
 fn columns(times: &Times) -> String {
-    let [middle, least, greatest] = times.ratio;
-    let (proved, plain) = (times.proved, times.plain);
-    format!("{proved:.1} | {plain:.1} | {middle:.2} | {least:.2} to {greatest:.2}")
+    let [proved, plain] = [0, 1].map(|side| times.of(side)[0]);
+    format!("{proved:.1} | {plain:.1} | {}", ratio(times.rate(0, 1)))
 }
 
 /// Rows that are measured against the first of them.
@@ -99,24 +132,45 @@ fn together(rows: Vec<Row>, effort: &Effort) -> Result<(), String> {
     );
     println!("|---|---|---|---|---|---|---|");
     for row in &rows {
-        measure::compare(row)?;
+        measure::compare(row, &BOTH)?;
     }
-    let all = measure::time(&rows, effort.rounds, effort.nanoseconds);
+    let all = measure::time(&rows, &BOTH, effort.rounds, effort.nanoseconds);
     for (row, times) in rows.iter().zip(&all) {
-        let [middle, least, greatest] = times.growth;
-        let columns = columns(times);
-        let name = &row.name;
-        println!("| {name} | {columns} | {middle:.2} | {least:.2} to {greatest:.2} |");
+        let growth = ratio(times.growth(&all[0]));
+        println!("| {} | {} | {growth} |", row.name, columns(times));
     }
     Ok(())
 }
 
+fn measure_before(effort: &Effort, text: &str) -> Result<(), String> {
+    if ALL.len() == BOTH.len() {
+        return Err("built without an earlier archive: use bench/before".to_string());
+    }
+    println!(
+        "| Row | before, ns | now, ns | plain, ns | now / before | least to greatest | before / plain | now / plain |"
+    );
+    println!("|---|---|---|---|---|---|---|---|");
+    let rows = rows::main_rows().into_iter();
+    for row in rows.filter(|row| row.name.contains(text)) {
+        measure::compare(&row, ALL)?;
+        let times = time_one(&row, ALL, effort);
+        let [now, plain, before] = [0, 1, 2].map(|side| times.of(side)[0]);
+        let change = ratio(times.rate(0, 2));
+        let [was, is] = [2, 0].map(|side| times.rate(side, 1)[0]);
+        println!(
+            "| {} | {before:.1} | {now:.1} | {plain:.1} | {change} | {was:.2} | {is:.2} |",
+            row.name
+        );
+    }
+    println!("\nRatios of rates, medians of {} rounds.", effort.rounds);
+    Ok(())
+}
+
 fn alone(name: &str, side: &str, times: &str) -> Result<(), String> {
-    let side = match side {
-        "proved" => Side::Proved,
-        "plain" => Side::Plain,
-        _ => return Err(format!("no side {side}")),
-    };
+    let side = ALL
+        .iter()
+        .find(|known| known.name == side)
+        .ok_or(format!("no side {side}"))?;
     let times = times.parse().map_err(|_| format!("no number: {times}"))?;
     let mut rows = rows::main_rows();
     rows.append(&mut rows::window_rows());
@@ -125,7 +179,7 @@ fn alone(name: &str, side: &str, times: &str) -> Result<(), String> {
         .iter()
         .find(|row| row.name.starts_with(name))
         .ok_or(format!("no row {name}"))?;
-    let sum = measure::alone(side, row, times);
+    let sum = measure::alone(*side, row, times);
     println!("{}, {} calls, sum {sum:x}", row.name, row.calls.len());
     Ok(())
 }

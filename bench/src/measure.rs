@@ -1,69 +1,32 @@
-//! Both programs over a row: compared call by call, then timed in turn.
+//! Programs over a row: compared call by call, then timed in turn.
 
-use crate::call::{Call, Numbers, Settings, PROCESS_GIVEN, SUPERVISOR};
+use crate::call::{Call, Numbers, Settings};
 use crate::clock::thread_nanoseconds;
-use crate::plain;
-use crate::proved::{self, Raw};
+use crate::program::Program;
 use crate::rows::{Kind, Row};
 use std::hint::black_box;
 
-#[derive(Clone, Copy, Debug, PartialEq, Eq)]
-pub enum Side {
-    Proved,
-    Plain,
+/// A program, by its one call and by its loop over a row's calls.
+#[derive(Clone, Copy)]
+pub struct Side {
+    pub name: &'static str,
+    once: fn(Kind, &Settings, &mut [u8], &Call) -> Numbers,
+    run: fn(&Row, &mut [u8]) -> u64,
+}
+
+pub const fn side<P: Program>(name: &'static str) -> Side {
+    Side {
+        name,
+        once: once::<P>,
+        run: run::<P>,
+    }
 }
 
 #[inline]
-fn proved_call(settings: &Settings, window: &mut [u8], call: &Call) -> Numbers {
-    let raw = Raw {
-        device: u64::from(call.device),
-        process: u64::from(call.process),
-        flags: u64::from(call.flags),
-        access: call.access as u64,
-        address: call.address,
-        length: u64::from(call.length),
-        value: call.value,
-    };
-    proved::request(settings, window, &raw)
-}
-
-#[inline]
-fn plain_call(settings: &Settings, window: &mut [u8], call: &Call) -> Numbers {
-    let request = plain::Request {
-        device: u64::from(call.device),
-        process: (call.flags & PROCESS_GIVEN != 0).then_some(u64::from(call.process)),
-        supervisor: call.flags & SUPERVISOR != 0,
-        access: call.access,
-        address: call.address,
-        length: u64::from(call.length),
-        value: call.value,
-    };
-    plain::request(
-        settings.start,
-        window,
-        settings.mode,
-        settings.root,
-        &request,
-    )
-    .numbers()
-}
-
-/// One call on one side.
-fn call_once(
-    side: Side,
-    kind: Kind,
-    settings: &Settings,
-    window: &mut [u8],
-    call: &Call,
-) -> Numbers {
-    let identity = u64::from(call.value);
-    match (side, kind) {
-        (Side::Proved, Kind::Requests) => proved_call(settings, window, call),
-        (Side::Plain, Kind::Requests) => plain_call(settings, window, call),
-        (Side::Proved, Kind::Takes) => proved::take(settings.start, window, call.address, identity),
-        (Side::Plain, Kind::Takes) => {
-            plain::take(settings.start, window, call.address, identity).numbers()
-        }
+fn once<P: Program>(kind: Kind, settings: &Settings, window: &mut [u8], call: &Call) -> Numbers {
+    match kind {
+        Kind::Requests => P::request(settings, window, call),
+        Kind::Takes => P::take(settings.start, window, call.address, u64::from(call.value)),
     }
 }
 
@@ -75,30 +38,18 @@ fn summed(sum: u64, numbers: Numbers) -> u64 {
     sum.wrapping_add(answer)
 }
 
-/// All calls of a row on one side; gives the sum of the answers. One loop for each case, so that
-/// the compiler may do with each side what it can.
+/// All calls of a row on one side; gives the sum of the answers. One loop for each kind, so that
+/// the compiler may do with each program what it can.
 #[inline(never)]
-fn run(side: Side, row: &Row, window: &mut [u8]) -> u64 {
+fn run<P: Program>(row: &Row, window: &mut [u8]) -> u64 {
     let settings = black_box(row.world.settings);
-    let start = settings.start;
     let calls = row.calls.iter();
-    match (side, row.kind) {
-        (Side::Proved, Kind::Requests) => calls.fold(0, |sum, call| {
-            summed(sum, proved_call(&settings, window, call))
+    match row.kind {
+        Kind::Requests => calls.fold(0, |sum, call| {
+            summed(sum, once::<P>(Kind::Requests, &settings, window, call))
         }),
-        (Side::Plain, Kind::Requests) => calls.fold(0, |sum, call| {
-            summed(sum, plain_call(&settings, window, call))
-        }),
-        (Side::Proved, Kind::Takes) => calls.fold(0, |sum, call| {
-            let identity = u64::from(call.value);
-            summed(sum, proved::take(start, window, call.address, identity))
-        }),
-        (Side::Plain, Kind::Takes) => calls.fold(0, |sum, call| {
-            let identity = u64::from(call.value);
-            summed(
-                sum,
-                plain::take(start, window, call.address, identity).numbers(),
-            )
+        Kind::Takes => calls.fold(0, |sum, call| {
+            summed(sum, once::<P>(Kind::Takes, &settings, window, call))
         }),
     }
 }
@@ -106,30 +57,29 @@ fn run(side: Side, row: &Row, window: &mut [u8]) -> u64 {
 /// Runs one side alone, for a counter of instructions.
 pub fn alone(side: Side, row: &Row, times: u64) -> u64 {
     let mut window = row.world.bytes.clone();
-    (0..times).fold(0, |sum, _| sum ^ run(side, row, &mut window))
+    (0..times).fold(0, |sum, _| sum ^ (side.run)(row, &mut window))
 }
 
-/// Each call on both sides, with the same answer, of the row's kind, and the same bytes after it.
-pub fn compare(row: &Row) -> Result<(), String> {
+/// Each call on two sides, with the same answer, of the row's kind, and the same bytes after them.
+fn compare_two(row: &Row, ours: Side, theirs: Side) -> Result<(), String> {
     let settings = row.world.settings;
-    let mut ours = row.world.bytes.clone();
-    let mut theirs = row.world.bytes.clone();
+    let mut windows = [row.world.bytes.clone(), row.world.bytes.clone()];
     let mut seen = vec![false; row.answers.len()];
     for call in &row.calls {
-        let proved = call_once(Side::Proved, row.kind, &settings, &mut ours, call);
-        let plain = call_once(Side::Plain, row.kind, &settings, &mut theirs, call);
-        if proved != plain {
-            return Err(format!("{}: {call:x?}: {proved:?}, {plain:?}", row.name));
+        let answer = (ours.once)(row.kind, &settings, &mut windows[0], call);
+        let other = (theirs.once)(row.kind, &settings, &mut windows[1], call);
+        if answer != other {
+            return Err(format!("{}: {call:x?}: {answer:?}, {other:?}", row.name));
         }
-        let Some(place) = row.answers.iter().position(|kind| *kind == proved[0]) else {
-            return Err(format!("{}: {call:x?}: answered {proved:?}", row.name));
+        let Some(place) = row.answers.iter().position(|kind| *kind == answer[0]) else {
+            return Err(format!("{}: {call:x?}: answered {answer:?}", row.name));
         };
         seen[place] = true;
-        if row.number.is_some_and(|number| number != proved[1]) {
-            return Err(format!("{}: {call:x?}: number {}", row.name, proved[1]));
+        if row.number.is_some_and(|number| number != answer[1]) {
+            return Err(format!("{}: {call:x?}: number {}", row.name, answer[1]));
         }
     }
-    if ours != theirs {
+    if windows[0] != windows[1] {
         return Err(format!("{}: the windows differ", row.name));
     }
     if seen.contains(&false) {
@@ -138,83 +88,96 @@ pub fn compare(row: &Row) -> Result<(), String> {
     Ok(())
 }
 
-/// Nanoseconds a call, medians; and what is compared within one round: median, least, greatest.
-pub struct Times {
-    pub proved: f64,
-    pub plain: f64,
-    /// Proved rate over plain rate.
-    pub ratio: [f64; 3],
-    /// The proved library's cost over its cost in the first row.
-    pub growth: [f64; 3],
+/// The first side against each of the others.
+pub fn compare(row: &Row, sides: &[Side]) -> Result<(), String> {
+    sides[1..]
+        .iter()
+        .try_for_each(|other| compare_two(row, sides[0], *other))
+}
+
+/// Nanoseconds a call: for each round, of each side.
+pub struct Times(Vec<Vec<f64>>);
+
+impl Times {
+    /// Of one side: median, least, greatest.
+    pub fn of(&self, side: usize) -> [f64; 3] {
+        spread(self.0.iter().map(|round| round[side]).collect())
+    }
+
+    /// One side's rate over another's, within a round: median, least, greatest.
+    pub fn rate(&self, side: usize, other: usize) -> [f64; 3] {
+        let over = |round: &Vec<f64>| round[other] / round[side];
+        spread(self.0.iter().map(over).collect())
+    }
+
+    /// The first side's cost over its cost in another row, within a round.
+    pub fn growth(&self, from: &Times) -> [f64; 3] {
+        let rounds = self.0.iter().zip(&from.0);
+        spread(rounds.map(|(here, there)| here[0] / there[0]).collect())
+    }
 }
 
 /// A row under measurement: a window for each side, and how often a round runs its calls.
 struct Bench<'a> {
     row: &'a Row,
-    windows: [Vec<u8>; 2],
+    sides: &'a [Side],
+    windows: Vec<Vec<u8>>,
     times: u64,
 }
 
 impl Bench<'_> {
     /// Nanoseconds a call on one side.
-    fn once(&mut self, side: Side) -> f64 {
-        let window = &mut self.windows[side as usize];
+    fn once(&mut self, side: usize) -> f64 {
+        let run = self.sides[side].run;
+        let window = &mut self.windows[side];
         let begin = thread_nanoseconds();
         let mut sum = 0;
         for _ in 0..self.times {
-            sum ^= run(side, self.row, window);
+            sum ^= run(self.row, window);
         }
         black_box(sum);
         let spent = thread_nanoseconds() - begin;
         spent as f64 / (self.times as f64 * self.row.calls.len() as f64)
     }
 
-    /// Proved and plain, the one first that was second in the round before.
-    fn both(&mut self, round: usize) -> [f64; 2] {
-        if round.is_multiple_of(2) {
-            let proved = self.once(Side::Proved);
-            return [proved, self.once(Side::Plain)];
+    /// All sides; each round begins with another.
+    fn all(&mut self, round: usize) -> Vec<f64> {
+        let count = self.sides.len();
+        let mut times = vec![0.0; count];
+        for turn in 0..count {
+            let side = (round + turn) % count;
+            times[side] = self.once(side);
         }
-        let plain = self.once(Side::Plain);
-        [self.once(Side::Proved), plain]
+        times
     }
 }
 
-/// Times rows together: each round runs every row on both sides, so that the machine's own drift
+/// Times rows together: each round runs every row on all sides, so that the machine's own drift
 /// falls on all of them alike.
-pub fn time(rows: &[Row], rounds: usize, nanoseconds: f64) -> Vec<Times> {
-    let mut benches: Vec<Bench> = rows.iter().map(|row| warm(row, nanoseconds)).collect();
-    let mut seen: Vec<Vec<[f64; 2]>> = vec![Vec::new(); rows.len()];
+pub fn time(rows: &[Row], sides: &[Side], rounds: usize, nanoseconds: f64) -> Vec<Times> {
+    let warmed = rows.iter().map(|row| warm(row, sides, nanoseconds));
+    let mut benches: Vec<Bench> = warmed.collect();
+    let mut seen: Vec<Vec<Vec<f64>>> = vec![Vec::new(); rows.len()];
     for round in 0..rounds {
         for (bench, seen) in benches.iter_mut().zip(&mut seen) {
-            seen.push(bench.both(round));
+            seen.push(bench.all(round));
         }
     }
-    let first = seen[0].clone();
-    let over_first = |times: &[[f64; 2]]| -> Vec<f64> {
-        times.iter().zip(&first).map(|(a, b)| a[0] / b[0]).collect()
-    };
-    seen.iter()
-        .map(|times| Times {
-            proved: spread(times.iter().map(|[proved, _]| *proved).collect())[0],
-            plain: spread(times.iter().map(|[_, plain]| *plain).collect())[0],
-            ratio: spread(times.iter().map(|[proved, plain]| plain / proved).collect()),
-            growth: spread(over_first(times)),
-        })
-        .collect()
+    seen.into_iter().map(Times).collect()
 }
 
-/// Runs a row on both sides, and finds how often a round is to run it.
-fn warm(row: &Row, nanoseconds: f64) -> Bench<'_> {
+/// Runs a row on all sides, and finds how often a round is to run it.
+fn warm<'a>(row: &'a Row, sides: &'a [Side], nanoseconds: f64) -> Bench<'a> {
     let mut bench = Bench {
         row,
-        windows: [row.world.bytes.clone(), row.world.bytes.clone()],
+        sides,
+        windows: vec![row.world.bytes.clone(); sides.len()],
         times: 2,
     };
-    let [proved, plain] = bench.both(0);
-    let once = proved.max(plain) * row.calls.len() as f64;
+    let slowest = bench.all(0).into_iter().fold(0.0, f64::max);
+    let once = slowest * row.calls.len() as f64;
     bench.times = (nanoseconds / once).ceil() as u64;
-    bench.both(1);
+    bench.all(1);
     bench
 }
 

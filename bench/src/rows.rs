@@ -240,6 +240,25 @@ fn mix() -> Row {
     row
 }
 
+/// Masks of 1, 8, 16 and 29 ones, in one run and with as many runs as fit: a guest address of 41
+/// bits leaves room for 29, so that all of them make one run.
+const MASKS: [(&str, u64); 8] = [
+    ("1 one", 1),
+    ("1 one, at the top", 1 << 28),
+    ("8 ones", 0xFF),
+    ("8 ones, spread", 0x5555),
+    ("8 ones, spread wide", 0x1111_1111),
+    ("16 ones", 0xFFFF),
+    ("16 ones, spread", 0x1555_5557),
+    ("29 ones", 0x1FFF_FFFF),
+];
+
+fn masks() -> impl Iterator<Item = Row> {
+    MASKS
+        .into_iter()
+        .map(|(ones, mask)| messages(&format!("stored, mask of {ones}"), mask, None))
+}
+
 /// The rows of the main table.
 pub fn main_rows() -> Vec<Row> {
     let plan = |first, second, pages| Plan {
@@ -269,23 +288,9 @@ pub fn main_rows() -> Vec<Row> {
         row("second stage only, 4 KiB", plan(None, Some(0), 64), &[0]),
         row("PD20 and both stages, 4 KiB / 4 KiB", processes(), &[0]),
         messages("stored, both stages, mask of 8 ones", 0xFF, Some(0)),
-        messages("stored, first stage Bare, mask of 1 one", 1, None),
-        messages("stored, first stage Bare, mask of 8 ones", 0xFF, None),
-        messages(
-            "stored, first stage Bare, mask of 8 ones, spread",
-            0x5555,
-            None,
-        ),
-        messages("stored, first stage Bare, mask of 16 ones", 0xFFFF, None),
-        messages(
-            "stored, first stage Bare, mask of 29 ones",
-            0x1FFF_FFFF,
-            None,
-        ),
-        redirected(),
-        refusals(),
-        file_outside(),
     ];
+    rows.extend(masks());
+    rows.extend([redirected(), refusals(), file_outside()]);
     rows.append(&mut faults());
     rows.push(takes());
     rows

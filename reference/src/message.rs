@@ -36,6 +36,19 @@ pub fn extract(value: u64, mask: u64) -> u64 {
     result
 }
 
+/// How the ones of a mask stand, for coverage.
+fn packed(mask: u64) -> Point {
+    let runs =
+        (0..64).filter(|place| bit(mask, *place) && (*place == 63 || !bit(mask, *place + 1)));
+    match (runs.count(), mask.count_ones()) {
+        (0, _) => Point::PackedNone,
+        (1, 29) => Point::PackedAll,
+        (1, _) => Point::PackedOneRun,
+        (2..=7, _) => Point::PackedFewRuns,
+        _ => Point::PackedManyRuns,
+    }
+}
+
 /// 000, 8.1.5; 01, Messages: the alignment that a table under this mask needs.
 pub fn alignment(mask: u64) -> u128 {
     let entries = 1u128 << mask.count_ones();
@@ -51,6 +64,7 @@ pub fn locate(task: &mut Task, context: &DeviceContext, guest: u64) -> Step<Mess
     if !u128::from(table).is_multiple_of(alignment(context.mask)) {
         return task.end(Point::F263Table, 263, Stage::MessageTable);
     }
+    task.note(packed(context.mask));
     let entry = load_entry(task, table + 16 * number)?;
     // Step 15.
     if task.request.access == Access::ReadForExecute {

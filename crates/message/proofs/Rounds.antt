@@ -9,7 +9,7 @@ use lib.Count.{ones, ones-cat, ones-le, trailingZeros, trailing-of-zero}
 use lib.Pow.{pow-pos, pow-add, pow-mono, split}
 use Rattle.message.specs.Recognition.{packed, extract}
 use Rattle.message.specs.declared.Packing.{Packing}
-use Rattle.message.specs.Rounds.{startOf, endOf, roundOf, Ready, beginning, rounds}
+use Rattle.message.specs.Rounds.{startOf, endOf, roundOf, Ready, beginning, rounds, Packs}
 use Rattle.message.proofs.Runs.{parity, halved, packed-even, packed-odd, after, Lowest, lowest}
 
 -- no more than n bits are packed
@@ -220,14 +220,10 @@ module _ {x mask left : ℕ} {p : Packing} (k : Counting x mask left p) where
       let one-more : ones mask - (left - 1) ≡ suc (ones mask - left) = omega (arith, k .within) in
       record { so-far = rw one-more (e ∙ ap (roundOf x) (k .so-far)); within = omega (arith, k .within) }
 
-  -- what the routine promises of the number and the rounds
-  abbrev Packs : ℕ → ℕ → Type 0
-  Packs number n = (number ≡ extract x mask) × (number ≡ rounds n x mask .number) × (n ≤ ones mask)
-
-  pub stops : p .rest ≡ 0 → Packs (p .number) (ones mask - left)
+  pub stops : p .rest ≡ 0 → Packs x mask (record { number = p .number; rounds = ones mask - left })
   stops e = (done partial e, ap (λ r. r .number) (k .so-far), omega arith)
 
-  pub ends : left ≤ 0 → Packs (p .number) (ones mask)
+  pub ends : left ≤ 0 → Packs x mask (record { number = p .number; rounds = ones mask })
   ends h =
       let all : ones mask - left ≡ ones mask = omega arith in
       rw all at (stops (emptied partial (omega arith)))

@@ -1,6 +1,9 @@
 -- How `message::pack` packs: each round takes the lowest run of ones that is left of the mask, without a loop. `message.Rounds.enough` shows that as many rounds as the mask has ones give `extract`.
 use Prim.Native.Nat.{ℕ, zero, suc, _+_, _-_, _*_, _/_, _%_, _^_, _≤_, _<_}
-use lib.Count.{trailingZeros}
+use mathlib.Core.Path.{_≡_}
+use lib.Count.{ones, trailingZeros}
+use Rattle.message.specs.Recognition.{extract}
+use Rattle.message.specs.declared.Counted.{Counted}
 use Rattle.message.specs.declared.Packing.{Packing}
 
 -- the lowest run of ones in y starts at this bit ..
@@ -34,3 +37,7 @@ beginning mask = record { number = 0; used = 0; rest = mask % 2 ^ 52 }
 unfoldable pub rounds : ℕ → ℕ → ℕ → Packing
 rounds zero x mask = beginning mask
 rounds (suc n) x mask = roundOf x (rounds n x mask)
+
+-- what `message::pack` promises: the packed number, made by the rounds that it counts, which are no more than the mask's ones
+abbrev pub Packs : ℕ → ℕ → Counted → Type 0
+Packs x mask r = (r .number ≡ extract x mask) × (r .number ≡ rounds (r .rounds) x mask .number) × (r .rounds ≤ ones mask)

@@ -4,13 +4,12 @@ use causes::FaultInfo;
 use causes::Stage;
 use memory::Load;
 ghost use mathlib.Core.Path.{_≡_};
-ghost use Prim.Native.Nat.{_*_, _%_, _^_, _<_, _≤_};
-ghost use lib.Count.{ones};
+ghost use Prim.Native.Nat.{_*_, _%_, _^_, _<_};
 ghost use lib.Dec.{eqb};
 ghost use Rattle.memory.specs.Window.{memory};
 ghost use Rattle.memory.specs.Walk.{run};
 ghost use Rattle.message.specs.Recognition.{recognised as recognisedOf, extract as extractOf};
-ghost use Rattle.message.specs.Rounds.{Ready, roundOf, rounds};
+ghost use Rattle.message.specs.Rounds.{Ready, roundOf, Packs};
 ghost use Rattle.message.specs.Table.{alignment, tableFault, permitted as permittedOf, translateReserved, recordReserved, destinationOf, onTranslate, onNotice, onEntry, messageOf};
 
 // Where an entry in MRIF mode has a message recorded, and the notice that it asks for: a number to be written at an address.
@@ -67,7 +66,7 @@ fn round(x: u64, p: Packing) -> Packing
 
 // The bits of x that the mask picks, packed in their order, in at most as many rounds as the mask has ones.
 fn pack(x: u64, mask: u64) -> Counted
-    ensures { λ r. ⌜ (r .number ≡ extractOf x mask) × (r .number ≡ rounds (r .rounds) x mask .number) × (r .rounds ≤ ones mask) ⌝ }
+    ensures { λ r. ⌜ Packs x mask r ⌝ }
 {
     let most = u64::count_ones(mask);
     let mut left = most;

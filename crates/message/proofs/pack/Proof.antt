@@ -1,6 +1,5 @@
 -- `message::pack` meets its contract: after each turn of the loop the packing is that of the rounds done, and they are no more than the mask's ones. Assumes nothing.
 use native.Mathlib.Omega.{arith}
-use borrow.Author.Needs.{needs}
 use Rattle.message.proofs.Rounds.{Counting, begins, ready, again, stops, ends}
 use Rattle.message.proofs.pack.Statement.{statement}
 use Rattle.message.proofs.pack.Tie as tie
