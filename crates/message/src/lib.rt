@@ -27,16 +27,16 @@ pub enum Message {
 }
 
 // Packing under way: the number so far, how many of its places are taken, and the ones of the mask that are left.
-pub struct Packing {
-    pub number: u64,
-    pub used: u32,
-    pub rest: u64,
+struct Packing {
+    number: u64,
+    used: u32,
+    rest: u64,
 }
 
 // A packed number and how many rounds made it; the count is for the promise alone, and the compiler drops it.
-pub struct Counted {
-    pub number: u64,
-    pub rounds: u32,
+struct Counted {
+    number: u64,
+    rounds: u32,
 }
 
 // Whether a guest address is one of a virtual interrupt file: its page number has the pattern in each bit that the mask leaves out.
