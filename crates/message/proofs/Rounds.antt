@@ -2,7 +2,7 @@
 use Prim.Native.Nat.{ℕ, zero, suc, _+_, _-_, _*_, _/_, _%_, _^_, _≤_, _<_}
 use mathlib.Core.Path.{_≡_, refl, sym, ap, _∙_}
 use mathlib.Core.Logic.{⊎-elim}
-use native.Mathlib.Nat.{mul-zero, mul-add, mul-assoc, mul-comm, pow-suc, mod-lt, sub-zero, mul-div-cancel, eq-zero-or-pos}
+use native.Mathlib.Nat.{mul-zero, mul-add, mul-assoc, mul-comm, pow-suc, mod-lt, sub-zero, mul-div-cancel, eq-zero-or-pos, eq-or-lt-of-le}
 use native.Mathlib.Omega.{arith}
 use lib.Bits.{bitAnd, and-le-l, and-high}
 use lib.Count.{ones, ones-cat, ones-le, trailingZeros, trailing-of-zero}
@@ -43,13 +43,13 @@ packed-none zero x = refl
 packed-none (suc n) x = packed-none n (x / 2)
 
 -- packing under way: what is packed and, above it, the packing of the rest make the whole; no more than `left` ones are left
-pub record Partial (x mask left : ℕ) (p : Packing) : Type 0 where
-  pub sum : p .number + 2 ^ p .used * packed 52 x (p .rest) ≡ extract x mask
-  pub small : p .rest < 2 ^ 52
-  pub room : p .used ≤ startOf (p .rest)
-  pub few : ones (p .rest) ≤ left
+record Partial (x mask left : ℕ) (p : Packing) : Type 0 where
+  sum : p .number + 2 ^ p .used * packed 52 x (p .rest) ≡ extract x mask
+  small : p .rest < 2 ^ 52
+  room : p .used ≤ startOf (p .rest)
+  few : ones (p .rest) ≤ left
 
-pub starts : (x mask : ℕ) → Partial x mask (ones mask) (beginning mask)
+starts : (x mask : ℕ) → Partial x mask (ones mask) (beginning mask)
 unfolding extract
 starts x mask =
     record {
@@ -69,28 +69,28 @@ placed u w v rest =
     mul-add (2 ^ u) v (2 ^ w * rest)
     ∙ ap (λ k. 2 ^ u * v + k) (sym (mul-assoc (2 ^ u) (2 ^ w) rest) ∙ ap (λ k. k * rest) (sym (pow-add 2 u w)))
 
+run : (x y : ℕ) → y < 2 ^ 52 → 0 < y → Lowest 52 64 x y
+run x y small some = lowest 52 64 x y (omega arith) small some
+
 module _ {x mask left : ℕ} {p : Packing} (q : Partial x mask left p) where
   whole : p .number ≤ extract x mask
   whole = omega (arith, q .sum)
 
-  module _ (h : 0 < p .rest) where
-    pub run : Lowest 52 64 x (p .rest)
-    run = lowest 52 64 x (p .rest) (omega arith) (q .small) h
-
-    pub turns : Partial x mask (left - 1) (roundOf x p)
-    turns =
-        let r = run .0 in
-        let s = startOf (p .rest) in
-        let e = endOf (p .rest) in
-        let rest = packed 52 x (after (p .rest) s e) in
-        let v = x / 2 ^ s % 2 ^ (e - s) in
-        let run-sum : 2 ^ p .used * packed 52 x (p .rest) ≡ 2 ^ p .used * v + 2 ^ (p .used + (e - s)) * rest = ap (λ k. 2 ^ p .used * k) (r .packing) ∙ placed (p .used) (e - s) v rest in
-        record {
-          sum = omega (arith, q .sum, run-sum);
-          small = omega (arith, pow-mono (r .order), q .small);
-          room = omega (arith, r .order, r .next, q .room);
-          few = omega (arith, r .count, run .1, q .few);
-        }
+  turns : 0 < p .rest → Partial x mask (left - 1) (roundOf x p)
+  turns h =
+      let l = run x (p .rest) (q .small) h in
+      let r = l .0 in
+      let s = startOf (p .rest) in
+      let e = endOf (p .rest) in
+      let rest = packed 52 x (after (p .rest) s e) in
+      let v = x / 2 ^ s % 2 ^ (e - s) in
+      let run-sum : 2 ^ p .used * packed 52 x (p .rest) ≡ 2 ^ p .used * v + 2 ^ (p .used + (e - s)) * rest = ap (λ k. 2 ^ p .used * k) (r .packing) ∙ placed (p .used) (e - s) v rest in
+      record {
+        sum = omega (arith, q .sum, run-sum);
+        small = omega (arith, pow-mono (r .order), q .small);
+        room = omega (arith, r .order, r .next, q .room);
+        few = omega (arith, r .count, l .1, q .few);
+      }
 
   -- where nothing is left a round changes nothing
   idles : p .rest ≡ 0 → Partial x mask (left - 1) (roundOf x p)
@@ -108,17 +108,21 @@ module _ {x mask left : ℕ} {p : Packing} (q : Partial x mask left p) where
         few = rw (rest, e) (omega (arith, ones-le 0 0 (omega arith)));
       }
 
-  pub turned : Partial x mask (left - 1) (roundOf x p)
+  turned : Partial x mask (left - 1) (roundOf x p)
   turned = ⊎-elim idles turns (eq-zero-or-pos (p .rest))
 
-  pub done : p .rest ≡ 0 → p .number ≡ extract x mask
+  done : p .rest ≡ 0 → p .number ≡ extract x mask
   done e = omega (arith, rw (e, packed-none, mul-zero) at (q .sum))
 
   -- a number that still has a one has a run
-  pub emptied : left ≡ 0 → p .rest ≡ 0
-  emptied e = ⊎-elim (λ z. z) (λ h. absurd (omega (arith, run h .0 .count, run h .1, q .few))) (eq-zero-or-pos (p .rest))
+  emptied : left ≡ 0 → p .rest ≡ 0
+  emptied e =
+      ⊎-elim
+      (λ z. z)
+      (λ h. let l = run x (p .rest) (q .small) h in absurd (omega (arith, l .0 .count, l .1, q .few)))
+      (eq-zero-or-pos (p .rest))
 
-pub reached : (n x mask : ℕ) → Partial x mask (ones mask - n) (rounds n x mask)
+reached : (n x mask : ℕ) → Partial x mask (ones mask - n) (rounds n x mask)
 unfolding rounds
 reached zero x mask = rw sub-zero (starts x mask)
 reached (suc n) x mask =
@@ -143,15 +147,15 @@ module _ (x : ℕ) (p : Packing) (h : Ready x p) where
   e = endOf (p .rest)
 
   run-of : Lowest 52 64 x (p .rest)
-  run-of = lowest 52 64 x (p .rest) (omega arith) (h .1) (h .0)
+  run-of = run x (p .rest) (h .1) (h .0)
 
   pub start-below : s < 52
   start-below = omega (arith, run-of .1, run-of .0 .bound)
 
-  pub end-above : s ≤ e
+  end-above : s ≤ e
   end-above = run-of .0 .order
 
-  pub end-below : e ≤ 52
+  end-below : e ≤ 52
   end-below = run-of .0 .bound
 
   -- the one added at the run's start, as a doubleword has it
@@ -196,32 +200,49 @@ module _ (x : ℕ) (p : Packing) (h : Ready x p) where
   pub used-is : p .used + (trailingZeros 64 over - s) ≡ roundOf x p .used
   used-is = rw over-is
 
--- a packing with so many rounds left of as many as the mask has ones
+-- a packing with so many rounds left of as many as the mask has ones, none of those done in vain
 pub record Counting (x mask left : ℕ) (p : Packing) : Type 0 where
   pub so-far : p ≡ rounds (ones mask - left) x mask
+  pub needed : (n : ℕ) → n < ones mask - left → 0 < rounds n x mask .rest
   pub within : left ≤ ones mask
 
 pub begins : (x mask : ℕ) → Counting x mask (ones mask) (beginning mask)
 unfolding rounds
-begins x mask = let none-done : ones mask - ones mask ≡ 0 = omega arith in record { so-far = rw none-done; within = omega arith }
+begins x mask =
+    let none-done : ones mask - ones mask ≡ 0 = omega arith in
+    record { so-far = rw none-done; needed = λ n h. absurd (omega arith); within = omega arith }
 
 module _ {x mask left : ℕ} {p : Packing} (k : Counting x mask left p) where
   partial : Partial x mask (ones mask - (ones mask - left)) p
   partial = rw (k .so-far) (reached (ones mask - left) x mask)
 
-  pub ready : (p .rest ≡ 0 → ⊥) → Ready x p
-  ready h =
-      let r : 0 < p .rest = omega arith in
-      (r, partial .small, partial .room, omega (arith, whole (turned partial), extract-below x mask))
+  module _ (h : p .rest ≡ 0 → ⊥) where
+    some : 0 < p .rest
+    some = omega arith
 
-  pub again : 0 < left → (q : Packing) → q ≡ roundOf x p → Counting x mask (left - 1) q
-  unfolding rounds
-  again h q e =
-      let one-more : ones mask - (left - 1) ≡ suc (ones mask - left) = omega (arith, k .within) in
-      record { so-far = rw one-more (e ∙ ap (roundOf x) (k .so-far)); within = omega (arith, k .within) }
+    pub ready : Ready x p
+    ready = (some, partial .small, partial .room, omega (arith, whole (turned partial), extract-below x mask))
+
+    -- the round that is done now is needed too
+    needed-now : (n : ℕ) → n < ones mask - (left - 1) → 0 < rounds n x mask .rest
+    needed-now n l =
+        ⊎-elim
+        (λ (same : n ≡ ones mask - left). rw (same, ← k .so-far) some)
+        (k .needed n)
+        (eq-or-lt-of-le (omega arith))
+
+    pub again : 0 < left → (q : Packing) → q ≡ roundOf x p → Counting x mask (left - 1) q
+    unfolding rounds
+    again l q e =
+        let one-more : ones mask - (left - 1) ≡ suc (ones mask - left) = omega (arith, k .within) in
+        record {
+          so-far = rw one-more (e ∙ ap (roundOf x) (k .so-far));
+          needed = needed-now;
+          within = omega (arith, k .within);
+        }
 
   pub stops : p .rest ≡ 0 → Packs x mask (record { number = p .number; rounds = ones mask - left })
-  stops e = (done partial e, ap (λ r. r .number) (k .so-far), omega arith)
+  stops e = (done partial e, rw (k .so-far) at e, k .needed, omega arith)
 
   pub ends : left ≤ 0 → Packs x mask (record { number = p .number; rounds = ones mask })
   ends h =

@@ -3,11 +3,11 @@ use Prim.Native.Nat.{ℕ, zero, suc, _+_, _-_, _*_, _/_, _%_, _^_, _≤_, _<_}
 use mathlib.Core.Path.{_≡_, refl, sym, ap, _∙_}
 use mathlib.Core.Logic.{_⊎_, inl, inr, ⊎-elim}
 use native.Mathlib.Nat.{mul-assoc, mul-comm, pow-suc, div-div-eq-div-mul, div-one, sub-zero}
+use native.Mathlib.Numerals.{add-one}
 use native.Mathlib.Omega.{arith}
-use lib.Arith.{mod-mul}
 use lib.Bits.{bitAnd, and-step, and-self}
 use lib.Count.{ones, ones-step, trailingZeros}
-use lib.Pow.{pow-pos}
+use lib.Pow.{mod-pow-add}
 use Rattle.message.specs.Recognition.{packed}
 
 pub parity : (y : ℕ) → (y % 2 ≡ 0) ⊎ (y % 2 ≡ 1)
@@ -98,7 +98,7 @@ below n k x y s e h r =
     }
 
 pub halved : (x e : ℕ) → x % 2 ^ suc e ≡ x / 2 % 2 ^ e * 2 + x % 2
-halved x e = ap (λ d. x % d) (pow-suc 2 e) ∙ mod-mul x (pow-pos e) (omega arith)
+halved x e = ap (λ k. x % 2 ^ k) (sym (add-one e)) ∙ mod-pow-add x e 1
 
 -- one bit more of x below a number
 digit : (x e q : ℕ) → x % 2 + 2 * (x / 2 / 2 ^ 0 % 2 ^ (e - 0) + 2 ^ (e - 0) * q) ≡ x / 2 ^ 0 % 2 ^ (suc e - 0) + 2 ^ (suc e - 0) * q

@@ -38,6 +38,10 @@ unfoldable pub rounds : ℕ → ℕ → ℕ → Packing
 rounds zero x mask = beginning mask
 rounds (suc n) x mask = roundOf x (rounds n x mask)
 
--- what `message::pack` promises: the packed number, made by the rounds that it counts, which are no more than the mask's ones
+-- what `message::pack` promises: the packed number, and how many rounds make it: after so many no one of the mask is left, after fewer one is, and they are no more than the mask's ones
 abbrev pub Packs : ℕ → ℕ → Counted → Type 0
-Packs x mask r = (r .number ≡ extract x mask) × (r .number ≡ rounds (r .rounds) x mask .number) × (r .rounds ≤ ones mask)
+Packs x mask r =
+    (r .number ≡ extract x mask)
+    × (rounds (r .rounds) x mask .rest ≡ 0)
+    × ((n : ℕ) → n < r .rounds → 0 < rounds n x mask .rest)
+    × (r .rounds ≤ ones mask)

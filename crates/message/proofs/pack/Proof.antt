@@ -14,7 +14,7 @@ loop-holds : tie.Need-loop-holds Inv-loop μ-loop
 loop-holds c = begins _ _
 
 sub-t8 : tie.Need-sub-t8 Inv-loop μ-loop
-sub-t8 c = c .before .before .before .loop .inv .within
+sub-t8 c = omega (arith, c .before .before .before .loop .inv .within)
 
 returns : tie.Need-returns Inv-loop μ-loop
 returns c = stops (c .before .before .before .loop .inv) (c .if1 .taken)
@@ -29,7 +29,7 @@ loop-less : tie.Need-loop-less Inv-loop μ-loop
 loop-less c = omega arith
 
 loop-again : tie.Need-loop-again Inv-loop μ-loop
-loop-again c = again (c .before .before .before .before .loop .inv) (omega arith) (c .round .result) (c .round .ensures)
+loop-again c = again (c .before .before .before .before .loop .inv) (c .before .if1 .left) (omega arith) (c .round .result) (c .round .ensures)
 
 returns-2 : tie.Need-returns-2 Inv-loop μ-loop
 returns-2 c = ends (c .before .loop .inv) (omega (arith, c .loop-test .left))
