@@ -150,33 +150,33 @@ module _ (m : ℕ → Load) (c : DeviceContext) (s : Bool) (x : Access) (p : ℕ
   abbrev found : Walk PageTableInfo
   found = bind (processContextOf c x p) (λ f. done (onProcess s f))
 
-  pub table-bare : (t : PageTable) → b ≡ true → t ≡ bareTable → Use t ≡ run m (processTable c s x p)
+  pub table-bare : (t : PageTable) → b ≡ true → t ≡ bareTable → Use t false ≡ run m (processTable c s x p)
   unfolding processTable
-  table-bare t e h = at m (λ q. pick q (done (Use bareTable)) found) (sym hb ∙ e) (ap Use h)
+  table-bare t e h = at m (λ q. pick q (done (Use bareTable false)) found) (sym hb ∙ e) (ap (λ (k : PageTable). Use k false) h)
 
   module _ (o : b ≡ false) (f : ProcessFound) (hf : f ≡ run m (processContextOf c x p)) where
     taken : {z : PageTableInfo} → z ≡ onProcess s f → z ≡ run m (processTable c s x p)
     unfolding processTable
     taken e =
-        at m (λ q. pick q (done (Use bareTable)) found) (sym hb ∙ o)
+        at m (λ q. pick q (done (Use bareTable false)) found) (sym hb ∙ o)
         (then m (processContextOf c x p) (λ g. done (onProcess s g)) hf e)
 
     pub table-unfound : (g n : FaultInfo) → f ≡ Fault g → ((h : FaultInfo) → f ≡ Fault h → n ≡ h) → PageTableInfo.Fault n ≡ run m (processTable c s x p)
     table-unfound g n e h = taken (ap PageTableInfo.Fault (h g e) ∙ sym (ap (onProcess s) e))
 
     module _ (k : ProcessContext) (e : f ≡ Context k) (n : Bool) (hn : n ≡ bit (k .ta) 1) where
-      supervised : {q : Bool} {z : PageTableInfo} → (s && not n) ≡ q → z ≡ pick q (PageTableInfo.Fault disallowed) (Use (firstTable (k .fsc))) → z ≡ run m (processTable c s x p)
+      supervised : {q : Bool} {z : PageTableInfo} → (s && not n) ≡ q → z ≡ pick q (PageTableInfo.Fault disallowed) (Use (firstTable (k .fsc)) (bit (k .ta) 2)) → z ≡ run m (processTable c s x p)
       supervised t h =
           taken
           (h
-          ∙ ap (λ q. pick q (PageTableInfo.Fault disallowed) (Use (firstTable (k .fsc)))) (sym t ∙ ap (λ q. s && not q) hn)
+          ∙ ap (λ q. pick q (PageTableInfo.Fault disallowed) (Use (firstTable (k .fsc)) (bit (k .ta) 2))) (sym t ∙ ap (λ q. s && not q) hn)
           ∙ sym (ap (onProcess s) e))
 
       pub table-refused : (d : FaultInfo) → (s && not n) ≡ true → d ≡ disallowed → PageTableInfo.Fault d ≡ run m (processTable c s x p)
       table-refused d t h = supervised t (ap PageTableInfo.Fault h)
 
-      pub table-given : (t : PageTable) → (s && not n) ≡ false → t ≡ firstTable (k .fsc) → Use t ≡ run m (processTable c s x p)
-      table-given t u h = supervised u (ap Use h)
+      pub table-given : (t : PageTable) (v : Bool) → (s && not n) ≡ false → t ≡ firstTable (k .fsc) → v ≡ bit (k .ta) 2 → Use t v ≡ run m (processTable c s x p)
+      table-given t v u h w = supervised u (ap (λ (y : PageTable). Use y v) h ∙ ap (Use (firstTable (k .fsc))) w)
 
 pub ruleset table-ways = (table-bare, table-unfound, table-refused, table-given)
 
@@ -212,20 +212,20 @@ module _ (m : ℕ → Load) (c : DeviceContext) (process : ProcessId) (s : Bool)
   unfolding firstTableOf
   given-refused p d e t h = at m (λ i. firstTableOf c i s x) e (simp (← hb, not-true b t, h))
 
-  pub absent-first : (t : PageTable) → process ≡ Absent → not b ≡ true → t ≡ firstTable (c .fsc) → Use t ≡ run m (firstTableOf c process s x)
+  pub absent-first : (t : PageTable) → process ≡ Absent → not b ≡ true → t ≡ firstTable (c .fsc) → Use t false ≡ run m (firstTableOf c process s x)
   unfolding firstTableOf
   absent-first t e u h = at m (λ i. firstTableOf c i s x) e (simp (← hb, not-true b u, h))
 
   abbrev onWanted : ProcessId → Walk PageTableInfo
   onWanted (Given p) = pick (processTooWide c p) (done (PageTableInfo.Fault disallowed)) (processTable c s x p)
-  onWanted Absent = done (Use bareTable)
+  onWanted Absent = done (Use bareTable false)
 
   is-wanted : pdtv c ≡ true → (i : ProcessId) → run m (onWanted (wantedOf c i)) ≡ run m (firstTableOf c i s x)
   unfolding firstTableOf
   is-wanted t (Given p) = simp t
   is-wanted t Absent = go (dpe c)
     where
-      go : (d : Bool) → run m (onWanted (pick d (Given 0) Absent)) ≡ run m (pick (pdtv c) (pick d (processTable c s x 0) (done (Use bareTable))) (done (Use (firstTable (c .fsc)))))
+      go : (d : Bool) → run m (onWanted (pick d (Given 0) Absent)) ≡ run m (pick (pdtv c) (pick d (processTable c s x 0) (done (Use bareTable false))) (done (Use (firstTable (c .fsc)) false)))
       go true = simp (t, zero-fits c)
       go false = simp t
 
@@ -233,8 +233,8 @@ module _ (m : ℕ → Load) (c : DeviceContext) (process : ProcessId) (s : Bool)
     wanted : {z : PageTableInfo} → z ≡ run m (onWanted w) → z ≡ run m (firstTableOf c process s x)
     wanted h = h ∙ ap (λ i. run m (onWanted i)) hw ∙ is-wanted (sym hb ∙ not-false b t) process
 
-    pub none-wanted : (n : PageTable) → w ≡ Absent → n ≡ bareTable → Use n ≡ run m (firstTableOf c process s x)
-    none-wanted n e h = wanted (at m onWanted e (ap Use h))
+    pub none-wanted : (n : PageTable) → w ≡ Absent → n ≡ bareTable → Use n false ≡ run m (firstTableOf c process s x)
+    none-wanted n e h = wanted (at m onWanted e (ap (λ (t : PageTable). Use t false) h))
 
     module _ (p : ℕ) (e : w ≡ Given p) (v : Bool) (hv : v ≡ processTooWide c p) where
       pub wanted-wide : (d : FaultInfo) → v ≡ true → d ≡ disallowed → PageTableInfo.Fault d ≡ run m (firstTableOf c process s x)

@@ -1,6 +1,6 @@
 -- The process directory, the process context, and the first stage that they give (003, "Process to locate the Process-context", and steps 7 to 16 of "Process to translate an IOVA").
 use Prim.Native.Nat.{ℕ, _+_, _-_, _*_}
-use mathlib.Core.Bool.{Bool, _&&_, not}
+use mathlib.Core.Bool.{Bool, false, _&&_, not}
 use mathlib.Core.List.{[], _∷_}
 use lib.Dec.{eqb}
 use Rattle.memory.specs.Choice.{pick, any}
@@ -34,6 +34,9 @@ processIndex p n = pick (eqb n 0) (bits p 7 0) (pick (eqb n 1) (bits p 16 8) (bi
 -- "ta (V 0, ENS 1, SUM 2, PSCID 31:12, the rest reserved)"
 abbrev pub ens : ProcessContext → Bool
 ens c = bit (c .ta) 1
+
+abbrev pub sum : ProcessContext → Bool
+sum c = bit (c .ta) 2
 
 -- 003, "Process-context configuration checks", by number
 unfoldable pub processMisconfigured : ProcessContext → Bool
@@ -77,22 +80,22 @@ module _ (c : DeviceContext) (x : Access) where
   processContextOf p =
       bind (pointers Process (processIndex p) processReach (modeOf (c .fsc) - 1) (pageOf (c .fsc))) (onProcessTable p)
 
--- step 15: "Supervisor without ENS is 260"; step 16
+-- step 15: "Supervisor without ENS is 260"; step 16. SUM is the process context's; where none is found there is no SUM, as if it were 0
 abbrev pub onProcess : Bool → ProcessFound → PageTableInfo
 onProcess supervisor (Fault f) = PageTableInfo.Fault f
 onProcess supervisor (Context c) =
-    pick (supervisor && not (ens c)) (PageTableInfo.Fault disallowed) (Use (firstTable (c .fsc)))
+    pick (supervisor && not (ens c)) (PageTableInfo.Fault disallowed) (Use (firstTable (c .fsc)) (sum c))
 
 -- steps 13 to 16 for a process
 unfoldable pub processTable : DeviceContext → Bool → Access → ℕ → Walk PageTableInfo
 processTable c supervisor x p =
-    pick (bareOf (c .fsc)) (done (Use bareTable)) (bind (processContextOf c x p) (λ f. done (onProcess supervisor f)))
+    pick (bareOf (c .fsc)) (done (Use bareTable false)) (bind (processContextOf c x p) (λ f. done (onProcess supervisor f)))
 
 -- step 7: the process_id is wider than pdtp's mode allows; "(a Bare process directory sets no width)"
 abbrev pub processTooWide : DeviceContext → ℕ → Bool
 processTooWide c p = not (bareOf (c .fsc)) && tooWide (modeOf (c .fsc)) (processIndex p 1) (processIndex p 2)
 
--- steps 7 and 10 to 16: which first-stage table translates the request
+-- steps 7 and 10 to 16: which first-stage table translates the request, and under which SUM
 unfoldable pub firstTableOf : DeviceContext → ProcessId → Bool → Access → Walk PageTableInfo
 firstTableOf c (Given p) supervisor x =
     pick (pdtv c)
@@ -100,5 +103,5 @@ firstTableOf c (Given p) supervisor x =
     (done (PageTableInfo.Fault disallowed))
 firstTableOf c Absent supervisor x =
     pick (pdtv c)
-    (pick (dpe c) (processTable c supervisor x 0) (done (Use bareTable)))
-    (done (Use (firstTable (c .fsc))))
+    (pick (dpe c) (processTable c supervisor x 0) (done (Use bareTable false)))
+    (done (Use (firstTable (c .fsc)) false))

@@ -24,7 +24,7 @@ Masked (DeviceFound.Fault f) = Unit {0}
 
 -- a used table's root is a page of 44 bits
 abbrev pub Rooted : PageTableInfo → Type 0
-Rooted (Use t) = t .root < 2 ^ 44
+Rooted (Use t sum) = t .root < 2 ^ 44
 Rooted (PageTableInfo.Fault f) = Unit {0}
 
 -- step 11: "If DPE is 1 and there is no process_id associated with the transaction then let process_id be the default value of 0"

@@ -107,9 +107,9 @@ pub enum ProcessId {
     Given(u64),
 }
 
-// 003, steps 7 to 16: the first stage's table, or a fault.
+// 003, steps 7 to 16: the first stage's table and SUM, or a fault.
 pub enum PageTableInfo {
-    Use(PageTable),
+    Use(PageTable, bool),
     Fault(FaultInfo),
 }
 
@@ -120,7 +120,7 @@ impl PageTableInfo {
     {
         match self {
             PageTableInfo::Fault(f) => f,
-            PageTableInfo::Use(_) => load_fault(Tree::Device),
+            PageTableInfo::Use(_, _) => load_fault(Tree::Device),
         }
     }
 }
@@ -530,7 +530,7 @@ fn process_context(c: DeviceContext, x: Access, p: u64, start: u64, window: &[u8
     process_context_at(start, window, a)
 }
 
-// The first stage of a process.
+// The first stage of a process, with its SUM.
 fn process_table(
     c: DeviceContext,
     supervisor: bool,
@@ -542,7 +542,7 @@ fn process_table(
     ensures { λ r. ⌜ (r ≡ run (memory start (now (window .entry))) (processTable c supervisor x p)) × Rooted r ⌝ }
 {
     if bare(c.fsc) {
-        return PageTableInfo::Use(bare_table());
+        return PageTableInfo::Use(bare_table(), false);
     }
     let found = process_context(c, x, p, start, window);
     let ProcessFound::Context(k) = found else {
@@ -551,7 +551,7 @@ fn process_table(
     if supervisor & !memory::bit(k.ta, 1) {
         return PageTableInfo::Fault(causes::disallowed());
     }
-    PageTableInfo::Use(iosatp(k.fsc))
+    PageTableInfo::Use(iosatp(k.fsc), memory::bit(k.ta, 2))
 }
 
 // A process_id wider than the process directory's mode allows.
@@ -574,7 +574,7 @@ fn wanted(c: DeviceContext, process: ProcessId) -> ProcessId
     ProcessId::Given(p)
 }
 
-// The first stage's table for a request. One call of `process_table`, so that it is inlined here.
+// The first stage's table for a request, and SUM. One call of `process_table`, so that it is inlined here.
 pub fn first_table(
     c: DeviceContext,
     process: ProcessId,
@@ -588,13 +588,13 @@ pub fn first_table(
     let pdtv = memory::bit(c.tc, 5);
     if !pdtv {
         let ProcessId::Given(_) = process else {
-            return PageTableInfo::Use(iosatp(c.fsc));
+            return PageTableInfo::Use(iosatp(c.fsc), false);
         };
         return PageTableInfo::Fault(causes::disallowed());
     }
     let found = wanted(c, process);
     let ProcessId::Given(p) = found else {
-        return PageTableInfo::Use(bare_table());
+        return PageTableInfo::Use(bare_table(), false);
     };
     if process_too_wide(c, p) {
         return PageTableInfo::Fault(causes::disallowed());

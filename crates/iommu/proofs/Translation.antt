@@ -14,6 +14,8 @@ use Rattle.paging.specs.declared.PageTable.{PageTable}
 use Rattle.paging.specs.declared.Purpose.the-variants.{SecondStage}
 use Rattle.paging.specs.declared.Translation.{Translation}
 use Rattle.paging.specs.declared.Translation.the-variants.{To}
+use Rattle.paging.specs.declared.Pages.{Pages}
+use Rattle.paging.specs.Entry.{pagesFor}
 use Rattle.paging.specs.Stages.{firstStageOf, secondStageOf}
 use Rattle.directory.specs.declared.DeviceContext.{DeviceContext}
 use Rattle.directory.specs.declared.DeviceFound.{DeviceFound}
@@ -88,24 +90,27 @@ first-off f b r h e = simp (h, e)
 
 pub ruleset stage-flags = (first-on, first-off)
 
-module _ (m : ℕ → Load) (c : DeviceContext) (q : DeviceRequest) (f : PageTable) (b : Bool) (h : b ≡ (f .on || not (bareOf (c .iohgatp)))) where
-  pub stages-none : (o : Outcome) → b ≡ false → o ≡ untranslated (q .access) (q .address) → o ≡ run m (stagesOf c q f)
+module _ (m : ℕ → Load) (c : DeviceContext) (q : DeviceRequest) (f : PageTable) (sum b : Bool) (h : b ≡ (f .on || not (bareOf (c .iohgatp)))) where
+  pub stages-none : (o : Outcome) → b ≡ false → o ≡ untranslated (q .access) (q .address) → o ≡ run m (stagesOf c q f sum)
   unfolding stagesOf
   stages-none o t e = e ∙ simp (← h, t)
 
-  module _ (t : b ≡ true) (g : PageTable) (hg : g ≡ secondTable (c .iohgatp)) (r : Translation)
-      (hr : r ≡ run m (firstStageOf f g (q .access) (not (q .supervisor)) (q .address))) where
-    both : {o : Outcome} → o ≡ run m (onFirst c (q .access) r) → o ≡ run m (stagesOf c q f)
+  module _ (t : b ≡ true) (g : PageTable) (hg : g ≡ secondTable (c .iohgatp)) (pages : Pages) (hp : pages ≡ pagesFor (q .supervisor) sum (q .access)) (r : Translation)
+      (hr : r ≡ run m (firstStageOf f g (q .access) pages (q .address))) where
+    both : {o : Outcome} → o ≡ run m (onFirst c (q .access) r) → o ≡ run m (stagesOf c q f sum)
     unfolding stagesOf
     both e =
-        then m (firstStageOf f (secondTable (c .iohgatp)) (q .access) (not (q .supervisor)) (q .address)) (onFirst c (q .access))
-        (hr ∙ ap (λ (p : PageTable). run m (firstStageOf f p (q .access) (not (q .supervisor)) (q .address))) hg) e
+        then m (firstStageOf f (secondTable (c .iohgatp)) (q .access) (pagesFor (q .supervisor) sum (q .access)) (q .address)) (onFirst c (q .access))
+        (hr
+        ∙ ap (λ (p : PageTable). run m (firstStageOf f p (q .access) pages (q .address))) hg
+        ∙ ap (λ (p : Pages). run m (firstStageOf f (secondTable (c .iohgatp)) (q .access) p (q .address))) hp)
+        e
         ∙ simp (← h, t)
 
-    pub stages-fault : (k : FaultInfo) (o : Outcome) → r ≡ Translation.Fault k → o ≡ onSecond r → o ≡ run m (stagesOf c q f)
+    pub stages-fault : (k : FaultInfo) (o : Outcome) → r ≡ Translation.Fault k → o ≡ onSecond r → o ≡ run m (stagesOf c q f sum)
     stages-fault k o e w = both (at m (onFirst c (q .access)) e (w ∙ ap onSecond e))
 
-    pub stages-guest : (a : ℕ) (o : Outcome) → r ≡ To a → o ≡ run m (guestOf c (q .access) a) → o ≡ run m (stagesOf c q f)
+    pub stages-guest : (a : ℕ) (o : Outcome) → r ≡ To a → o ≡ run m (guestOf c (q .access) a) → o ≡ run m (stagesOf c q f sum)
     stages-guest a o e w = both (at m (onFirst c (q .access)) e w)
 
 pub ruleset stages-ways = (stages-none, stages-fault, stages-guest)
@@ -119,11 +124,11 @@ module _ (m : ℕ → Load) (c : DeviceContext) (q : DeviceRequest) (i : PageTab
   pub context-fault : (k v : FaultInfo) → i ≡ PageTableInfo.Fault k → ((f : FaultInfo) → i ≡ PageTableInfo.Fault f → v ≡ f) → Fault v ≡ run m (onDevice q (Context c))
   context-fault k v e h = informed (at m (onInfo c q) e (ap Fault (h k e)))
 
-  pub context-goes : (t : PageTable) (o : Outcome) → i ≡ Use t → o ≡ run m (stagesOf c q t) → o ≡ run m (onDevice q (Context c))
-  context-goes t o e h = informed (at m (onInfo c q) e h)
+  pub context-goes : (t : PageTable) (sum : Bool) (o : Outcome) → i ≡ Use t sum → o ≡ run m (stagesOf c q t sum) → o ≡ run m (onDevice q (Context c))
+  context-goes t sum o e h = informed (at m (onInfo c q) e h)
 
-pub use-root : (i : PageTableInfo) (t : PageTable) → i ≡ Use t → Rooted i → t .root < 2 ^ 44
-use-root i t e h = subst Rooted e h
+pub use-root : (i : PageTableInfo) (t : PageTable) (sum : Bool) → i ≡ Use t sum → Rooted i → t .root < 2 ^ 44
+use-root i t sum e h = subst Rooted e h
 
 pub ruleset context-ways = (context-fault, context-goes, use-root)
 

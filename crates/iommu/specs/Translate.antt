@@ -11,6 +11,7 @@ use Rattle.paging.specs.declared.PageTable.{PageTable}
 use Rattle.paging.specs.declared.Purpose.the-variants.{SecondStage}
 use Rattle.paging.specs.declared.Translation.{Translation}
 use Rattle.paging.specs.declared.Translation.the-variants.{To}
+use Rattle.paging.specs.Entry.{pagesFor}
 use Rattle.paging.specs.Stages.{firstStageOf, secondStageOf}
 use Rattle.directory.specs.declared.DeviceContext.{DeviceContext}
 use Rattle.directory.specs.declared.DeviceFound.{DeviceFound}
@@ -58,16 +59,18 @@ abbrev pub onFirst : DeviceContext → Access → Translation → Walk Outcome
 onFirst c x (Translation.Fault f) = done (Fault f)
 onFirst c x (To a) = guestOf c x a
 
--- steps 17 to 20, with the first stage's table
-unfoldable pub stagesOf : DeviceContext → DeviceRequest → PageTable → Walk Outcome
-stagesOf c q f =
+-- steps 17 to 20, with the first stage's table and SUM
+unfoldable pub stagesOf : DeviceContext → DeviceRequest → PageTable → Bool → Walk Outcome
+stagesOf c q f sum =
     pick (f .on || not (bareOf (c .iohgatp)))
-    (bind (firstStageOf f (secondTable (c .iohgatp)) (q .access) (not (q .supervisor)) (q .address)) (onFirst c (q .access)))
+    (bind
+    (firstStageOf f (secondTable (c .iohgatp)) (q .access) (pagesFor (q .supervisor) sum (q .access)) (q .address))
+    (onFirst c (q .access)))
     (done (untranslated (q .access) (q .address)))
 
 abbrev pub onInfo : DeviceContext → DeviceRequest → PageTableInfo → Walk Outcome
 onInfo c q (PageTableInfo.Fault f) = done (Fault f)
-onInfo c q (Use t) = stagesOf c q t
+onInfo c q (Use t sum) = stagesOf c q t sum
 
 -- steps 7 to 20, with the device context
 abbrev pub onDevice : DeviceRequest → DeviceFound → Walk Outcome

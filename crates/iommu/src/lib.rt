@@ -302,15 +302,23 @@ fn translated_by(f: PageTable, c: DeviceContext) -> bool
     !directory::second_bare(c)
 }
 
-// Both stages, with the first stage's table.
-fn stages(c: DeviceContext, q: DeviceRequest, f: PageTable, start: u64, window: &[u8]) -> Outcome
+// Both stages, with the first stage's table and SUM.
+fn stages(
+    c: DeviceContext,
+    q: DeviceRequest,
+    f: PageTable,
+    sum: bool,
+    start: u64,
+    window: &[u8],
+) -> Outcome
     requires { ⌜ (c .mask < 2 ^ 52) × (f .root < 2 ^ 44) ⌝ }
-    ensures { λ r. ⌜ r ≡ run (memory start (now (window .entry))) (stagesOf c q f) ⌝ }
+    ensures { λ r. ⌜ r ≡ run (memory start (now (window .entry))) (stagesOf c q f sum) ⌝ }
 {
     let x = q.access;
     if translated_by(f, c) {
         let g = directory::second_table(c);
-        let t = paging::first_stage(f, g, x, !q.supervisor, start, window, q.address);
+        let pages = paging::pages_for(q.supervisor, sum, x);
+        let t = paging::first_stage(f, g, x, pages, start, window, q.address);
         let Translation::To(a) = t else {
             return reached(t);
         };
@@ -327,10 +335,10 @@ fn with_context(c: DeviceContext, q: DeviceRequest, start: u64, window: &[u8]) -
     let p = q.process;
     let x = q.access;
     let info = directory::first_table(c, p, q.supervisor, x, start, window);
-    let PageTableInfo::Use(f) = info else {
+    let PageTableInfo::Use(f, sum) = info else {
         return Outcome::Fault(info.fault());
     };
-    stages(c, q, f, start, window)
+    stages(c, q, f, sum, start, window)
 }
 
 // Steps 5 to 20, with a directory.

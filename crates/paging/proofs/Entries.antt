@@ -7,6 +7,7 @@ use native.Mathlib.Nat.{mod-lt}
 use lib.Dec.{eqb}
 use lib.Pow.{pow-mono}
 use borrow.Author.Tests.{lt-ltb, le-ltb, eq-eqb, ne-eqb}
+use Rattle.memory.specs.Choice.{pick}
 use Rattle.memory.specs.Bits.{bit}
 use Rattle.memory.specs.declared.Load.{Load}
 use Rattle.memory.specs.declared.Load.the-variants.{Value, Violation}
@@ -16,6 +17,8 @@ use Rattle.causes.specs.declared.Access.the-variants.{Read, Write, Execute}
 use Rattle.causes.specs.declared.Stage.{Stage}
 use Rattle.causes.specs.declared.FaultInfo.{FaultInfo}
 use Rattle.paging.specs.declared.Purpose.{Purpose}
+use Rattle.paging.specs.declared.Pages.{Pages}
+use Rattle.paging.specs.declared.Pages.the-variants.{User, Supervisor, Any}
 use Rattle.paging.specs.declared.Translation.the-variants.{To, Fault}
 use Rattle.paging.specs.declared.Step.{Step}
 use Rattle.paging.specs.declared.Step.the-variants.{Stop}
@@ -24,7 +27,7 @@ use Rattle.paging.specs.declared.Raw.the-variants.{Arrive, Unread}
 use Rattle.paging.specs.Purpose.{pageFaultOf, accessFaultOf}
 use Rattle.causes.specs.Causes.{isWrite, isExecute}
 use Rattle.paging.specs.Tests.{soundBits, tableBits, permitOf, permitBits, leafBits, rawLoad, toStep, faultyEnd, toldBy}
-use Rattle.paging.specs.Entry.{leafOf, ownedBy}
+use Rattle.paging.specs.Entry.{leafOf, ownedBy, pagesFor}
 
 -- what a purpose's faults are
 pub page-fault-is : (p r : Purpose) (x : Access) (f : FaultInfo) → p ≡ r → f ≡ pageFaultOf r x → f ≡ pageFaultOf p x
@@ -51,26 +54,26 @@ offset-small a n span h e p = omega (arith, mod-lt a p, pow-mono {i = 12 + 9 * n
 pub ruleset offset-ways = (offset-is, offset-small)
 
 -- a loaded entry, by the tests that the code makes
-pub raw-violates : (x : Access) (user : Bool) (a n : ℕ) (v : Load) → v ≡ Violation → Unread ≡ rawLoad x user a n v
+pub raw-violates : (x : Access) (pages : Pages) (a n : ℕ) (v : Load) → v ≡ Violation → Unread ≡ rawLoad x pages a n v
 unfolding rawLoad
-raw-violates x user a n v e = sym (ap (rawLoad x user a n) e)
+raw-violates x pages a n v e = sym (ap (rawLoad x pages a n) e)
 
-module _ (x : Access) (user : Bool) (a n e : ℕ) (v : Load) (hv : v ≡ Value e) (b : Bool) (hb : b ≡ tableBits e) where
-  pub raw-points : b ≡ true → Raw.Next (e / 1024 % 17592186044416) ≡ rawLoad x user a n v
+module _ (x : Access) (pages : Pages) (a n e : ℕ) (v : Load) (hv : v ≡ Value e) (b : Bool) (hb : b ≡ tableBits e) where
+  pub raw-points : b ≡ true → Raw.Next (e / 1024 % 17592186044416) ≡ rawLoad x pages a n v
   unfolding rawLoad
   raw-points t = simp (hv, ← hb, t)
 
-  module _ (o : b ≡ false) (f : Bool) (hf : f ≡ leafBits e user x) where
-    pub raw-refuses : f ≡ false → Raw.Faulty ≡ rawLoad x user a n v
+  module _ (o : b ≡ false) (f : Bool) (hf : f ≡ leafBits e pages x) where
+    pub raw-refuses : f ≡ false → Raw.Faulty ≡ rawLoad x pages a n v
     unfolding rawLoad
     raw-refuses t = simp (hv, ← hb, o, ← hf, t)
 
     module _ (t : f ≡ true) (size : ℕ) (hs : size ≡ 2 ^ (9 * n)) where
-      pub raw-misaligned : (e / 1024 % 17592186044416 % size ≡ 0 → ⊥) → Raw.Faulty ≡ rawLoad x user a n v
+      pub raw-misaligned : (e / 1024 % 17592186044416 % size ≡ 0 → ⊥) → Raw.Faulty ≡ rawLoad x pages a n v
       unfolding rawLoad
       raw-misaligned r = simp (hv, ← hb, o, ← hf, t, ne-eqb (e / 1024 % 17592186044416 % 2 ^ (9 * n)) 0 (simp hs at r))
 
-      pub raw-arrives : (off : ℕ) → off ≡ a % 2 ^ (12 + 9 * n) → e / 1024 % 17592186044416 % size ≡ 0 → Arrive (e / 1024 % 17592186044416 * 4096 + off) ≡ rawLoad x user a n v
+      pub raw-arrives : (off : ℕ) → off ≡ a % 2 ^ (12 + 9 * n) → e / 1024 % 17592186044416 % size ≡ 0 → Arrive (e / 1024 % 17592186044416 * 4096 + off) ≡ rawLoad x pages a n v
       unfolding rawLoad
       raw-arrives off h r = simp (hv, ← hb, o, ← hf, t, eq-eqb (e / 1024 % 17592186044416 % 2 ^ (9 * n)) 0 (simp hs at r), h)
 
@@ -101,13 +104,40 @@ module _ (p : Purpose) (x : Access) (r : ℕ) where
 pub ruleset told-ways = (told-address, told-faulty, told-unread)
 
 -- the joined tests
-pub own-user : (user b : Bool) (e : ℕ) → user ≡ true → b ≡ bit e 4 → b ≡ ownedBy user (leafOf e)
-own-user user b e t h = h ∙ simp t
+module _ (pages : Pages) (u : Bool) (e : ℕ) (h : u ≡ bit e 4) where
+  pub own-user : pages ≡ User → u ≡ ownedBy pages (leafOf e)
+  own-user t = h ∙ sym (ap (λ (k : Pages). ownedBy k (leafOf e)) t)
 
-pub own-supervisor : (user b : Bool) (e : ℕ) → user ≡ false → b ≡ bit e 4 → not b ≡ ownedBy user (leafOf e)
-own-supervisor user b e t h = ap not h ∙ simp t
+  pub own-supervisor : pages ≡ Supervisor → not u ≡ ownedBy pages (leafOf e)
+  own-supervisor t = ap not h ∙ sym (ap (λ (k : Pages). ownedBy k (leafOf e)) t)
 
 pub ruleset own-ways = (own-user, own-supervisor)
+
+-- the pages for a request, by the tests that the code makes
+pages-table : (v s : Bool) (x : Access) → pick v (pick (s && not (isExecute x)) Any Supervisor) User ≡ pagesFor v s x
+pages-table false s x = refl
+pages-table true false x = refl
+pages-table true true Read = refl
+pages-table true true Write = refl
+pages-table true true Execute = refl
+
+module _ (v s f : Bool) (x : Access) (hf : f ≡ isExecute x) (t : v ≡ true) where
+  supervised : {b : Bool} → (s && not f) ≡ b → pick b Any Supervisor ≡ pagesFor v s x
+  supervised h =
+      ap (λ (b : Bool). pick b Any Supervisor) (sym h ∙ ap (λ (g : Bool). s && not g) hf)
+      ∙ ap (λ (b : Bool). pick b (pick (s && not (isExecute x)) Any Supervisor) User) (sym t)
+      ∙ pages-table v s x
+
+  pub pages-any : (s && not f) ≡ true → Any ≡ pagesFor v s x
+  pages-any h = supervised h
+
+  pub pages-own : (s && not f) ≡ false → Supervisor ≡ pagesFor v s x
+  pages-own h = supervised h
+
+pub pages-user : (v s : Bool) (x : Access) → v ≡ false → User ≡ pagesFor v s x
+pages-user v s x t = sym (ap (λ (k : Bool). pagesFor k s x) t)
+
+pub ruleset pages-ways = (pages-any, pages-own, pages-user)
 
 permit-table : (x : Access) (r w y d : Bool) → ((isExecute x || r) && (not (isWrite x) || (w && d)) && (not (isExecute x) || y) && (r || not w)) ≡ permitOf x r w y d
 permit-table Read true w y d = refl
@@ -125,9 +155,9 @@ permit-joined x e r w d y f g hr hw hd hf hg hy = rw (hr, hw, hd, hf, hg, hy, pe
 pub sound-is : (e : ℕ) (v : Bool) → v ≡ bit e 0 → (v && eqb (e / 18014398509481984 % 1024) 0) ≡ soundBits e
 sound-is e v h = simp h
 
-pub leaf-is : (e : ℕ) (user : Bool) (x : Access) (s a o p : Bool) → s ≡ soundBits e → a ≡ bit e 6 → o ≡ ownedBy user (leafOf e) → p ≡ permitBits x e → (s && a && o && p) ≡ leafBits e user x
+pub leaf-is : (e : ℕ) (pages : Pages) (x : Access) (s a o p : Bool) → s ≡ soundBits e → a ≡ bit e 6 → o ≡ ownedBy pages (leafOf e) → p ≡ permitBits x e → (s && a && o && p) ≡ leafBits e pages x
 unfolding leafBits
-leaf-is e user x s a o p hs ha ho hp = simp (hs, ha, ho, hp)
+leaf-is e pages x s a o p hs ha ho hp = simp (hs, ha, ho, hp)
 
 pub table-is : (e : ℕ) (s r w x u a d : Bool) → s ≡ soundBits e → r ≡ bit e 1 → w ≡ bit e 2 → x ≡ bit e 3 → u ≡ bit e 4 → a ≡ bit e 6 → d ≡ bit e 7
     → (s && not r && not w && not x && not u && not a && not d) ≡ tableBits e

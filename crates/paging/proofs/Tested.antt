@@ -36,7 +36,7 @@ onKind q n k Entry.Faulty = Stop (faulted q)
 onKind q n k (Table t) = Step.Next t
 onKind q n k (Maps l) =
     Stop
-    (pick (l .a && (ownedBy (q .user) l && permits k l) && eqb (l .page % 2 ^ (9 * n)) 0)
+    (pick (l .a && (ownedBy (q .pages) l && permits k l) && eqb (l .page % 2 ^ (9 * n)) 0)
     (To (l .page * 4096 + q .address % 2 ^ pageBitsOf n))
     (faulted q))
 
@@ -77,7 +77,7 @@ module _ (q : Lookup) (n page : ℕ) where
       step
       (pick (v && z && not r && not w && not x && not u && not a && not d)
       (Next page)
-      (pick (v && z && a && ownedBy (q .user) (leaf r w x u a d) && permitOf k r w x d && al) (Arrive place) Faulty))
+      (pick (v && z && a && ownedBy (q .pages) (leaf r w x u a d) && permitOf k r w x d && al) (Arrive place) Faulty))
 
   abbrev right : (v z r w x u a d : Bool) → Access → Step
   right v z r w x u a d k = onKind q n k (pick v (pick (not z) Entry.Faulty (kindOf page (leaf r w x u a d))) Entry.Faulty)
@@ -85,28 +85,28 @@ module _ (q : Lookup) (n page : ℕ) where
   table-of-bits : (v z r w x u a d : Bool) (k : Access) → left v z r w x u a d k ≡ right v z r w x u a d k
   table-of-bits false z r w x u a d k = refl
   table-of-bits true false r w x u a d k = refl
-  table-of-bits true true true w x u a d Read = joined a (ownedBy (q .user) (leaf true w x u a d)) true al
-  table-of-bits true true true w x u a d Write = joined a (ownedBy (q .user) (leaf true w x u a d)) (w && d) al
-  table-of-bits true true true w true u a d Execute = joined a (ownedBy (q .user) (leaf true w true u a d)) true al
-  table-of-bits true true true w false u a d Execute = joined a (ownedBy (q .user) (leaf true w false u a d)) false al
-  table-of-bits true true false true x u a d Read = dead a (ownedBy (q .user) (leaf false true x u a d)) al
-  table-of-bits true true false true x u a d Write = dead a (ownedBy (q .user) (leaf false true x u a d)) al
-  table-of-bits true true false true true u a d Execute = dead a (ownedBy (q .user) (leaf false true true u a d)) al
-  table-of-bits true true false true false u a d Execute = dead a (ownedBy (q .user) (leaf false true false u a d)) al
-  table-of-bits true true false false true u a d Read = joined a (ownedBy (q .user) (leaf false false true u a d)) false al
-  table-of-bits true true false false true u a d Write = joined a (ownedBy (q .user) (leaf false false true u a d)) false al
-  table-of-bits true true false false true u a d Execute = joined a (ownedBy (q .user) (leaf false false true u a d)) true al
-  table-of-bits true true false false false true a d Read = dead a (ownedBy (q .user) (leaf false false false true a d)) al
-  table-of-bits true true false false false true a d Write = dead a (ownedBy (q .user) (leaf false false false true a d)) al
-  table-of-bits true true false false false true a d Execute = dead a (ownedBy (q .user) (leaf false false false true a d)) al
-  table-of-bits true true false false false false true d Read = dead true (ownedBy (q .user) (leaf false false false false true d)) al
-  table-of-bits true true false false false false true d Write = dead true (ownedBy (q .user) (leaf false false false false true d)) al
-  table-of-bits true true false false false false true d Execute = dead true (ownedBy (q .user) (leaf false false false false true d)) al
+  table-of-bits true true true w x u a d Read = joined a (ownedBy (q .pages) (leaf true w x u a d)) true al
+  table-of-bits true true true w x u a d Write = joined a (ownedBy (q .pages) (leaf true w x u a d)) (w && d) al
+  table-of-bits true true true w true u a d Execute = joined a (ownedBy (q .pages) (leaf true w true u a d)) true al
+  table-of-bits true true true w false u a d Execute = joined a (ownedBy (q .pages) (leaf true w false u a d)) false al
+  table-of-bits true true false true x u a d Read = dead a (ownedBy (q .pages) (leaf false true x u a d)) al
+  table-of-bits true true false true x u a d Write = dead a (ownedBy (q .pages) (leaf false true x u a d)) al
+  table-of-bits true true false true true u a d Execute = dead a (ownedBy (q .pages) (leaf false true true u a d)) al
+  table-of-bits true true false true false u a d Execute = dead a (ownedBy (q .pages) (leaf false true false u a d)) al
+  table-of-bits true true false false true u a d Read = joined a (ownedBy (q .pages) (leaf false false true u a d)) false al
+  table-of-bits true true false false true u a d Write = joined a (ownedBy (q .pages) (leaf false false true u a d)) false al
+  table-of-bits true true false false true u a d Execute = joined a (ownedBy (q .pages) (leaf false false true u a d)) true al
+  table-of-bits true true false false false true a d Read = dead a (ownedBy (q .pages) (leaf false false false true a d)) al
+  table-of-bits true true false false false true a d Write = dead a (ownedBy (q .pages) (leaf false false false true a d)) al
+  table-of-bits true true false false false true a d Execute = dead a (ownedBy (q .pages) (leaf false false false true a d)) al
+  table-of-bits true true false false false false true d Read = dead true (ownedBy (q .pages) (leaf false false false false true d)) al
+  table-of-bits true true false false false false true d Write = dead true (ownedBy (q .pages) (leaf false false false false true d)) al
+  table-of-bits true true false false false false true d Execute = dead true (ownedBy (q .pages) (leaf false false false false true d)) al
   table-of-bits true true false false false false false true k = refl
   table-of-bits true true false false false false false false k = refl
 
 -- a loaded entry
-pub tested : (q : Lookup) (n : ℕ) (v : Load) → toStep (q .purpose) (q .access) (rawLoad (askedOf (q .purpose) (q .access)) (q .user) (q .address) n v) ≡ onLoad q n v
+pub tested : (q : Lookup) (n : ℕ) (v : Load) → toStep (q .purpose) (q .access) (rawLoad (askedOf (q .purpose) (q .access)) (q .pages) (q .address) n v) ≡ onLoad q n v
 unfolding rawLoad onLoad entryOf tableBits leafBits
 tested q n Violation = refl
 tested q n (Value e) =
@@ -116,7 +116,7 @@ tested q n (Value e) =
 -- a walk of entries that lie where their addresses say
 module _ (m : ℕ → Load) (s : Scheme) (q : Lookup) where
   abbrev raws : ℕ → ℕ → Walk Raw
-  raws n table = rawLevels s (askedOf (q .purpose) (q .access)) (q .user) (q .address) n table
+  raws n table = rawLevels s (askedOf (q .purpose) (q .access)) (q .pages) (q .address) n table
 
   raw-turn : (n : ℕ) → ((t : ℕ) → toldOf (q .purpose) (q .access) (run m (raws n t)) ≡ run m (levels s q direct n t))
       → (r : Raw) → toldOf (q .purpose) (q .access) (run m (onRaw (raws n) r)) ≡ run m (onStep (levels s q direct n) (toStep (q .purpose) (q .access) r))
@@ -129,7 +129,7 @@ module _ (m : ℕ → Load) (s : Scheme) (q : Lookup) where
   unfolding rawLevels levels levelOf
   raw-walk zero table = refl
   raw-walk (suc n) table =
-      raw-turn n (raw-walk n) (rawLoad (askedOf (q .purpose) (q .access)) (q .user) (q .address) n (m (entryAt s q n table)))
+      raw-turn n (raw-walk n) (rawLoad (askedOf (q .purpose) (q .access)) (q .pages) (q .address) n (m (entryAt s q n table)))
       ∙ ap (λ (k : Step). run m (onStep (levels s q direct n) k)) (tested q n (m (entryAt s q n table)))
 
 -- the number of a walk's end says what the end says

@@ -13,6 +13,8 @@ use Rattle.paging.specs.declared.Scheme.{Scheme}
 use Rattle.paging.specs.declared.PageTable.{PageTable}
 use Rattle.paging.specs.declared.Purpose.{Purpose}
 use Rattle.paging.specs.declared.Purpose.the-variants.{FirstStage, FirstStageEntry}
+use Rattle.paging.specs.declared.Pages.{Pages}
+use Rattle.paging.specs.declared.Pages.the-variants.{User}
 use Rattle.paging.specs.declared.Lookup.{Lookup}
 use Rattle.paging.specs.declared.Translation.{Translation}
 use Rattle.paging.specs.declared.Translation.the-variants.{To, Fault}
@@ -53,10 +55,10 @@ stop-small t f e = subst Near (sym e) tt
 -- the step of a first-stage entry
 pub level-steps : (m : ℕ → Load) (s : Scheme) (q : Lookup) (reach : ℕ → Walk Translation) (n table i : ℕ) (t : Translation) (p : ℕ) (v : Load) (k : Access) (r : Raw) (x : Step)
     → i ≡ indexOf s (q .address) n → t ≡ run m (reach (table * 4096 + 8 * i)) → t ≡ To p → v ≡ m p
-    → k ≡ askedOf (q .purpose) (q .access) → r ≡ rawLoad k (q .user) (q .address) n v → x ≡ toStep (q .purpose) (q .access) r → x ≡ run m (levelOf s q reach n table)
+    → k ≡ askedOf (q .purpose) (q .access) → r ≡ rawLoad k (q .pages) (q .address) n v → x ≡ toStep (q .purpose) (q .access) r → x ≡ run m (levelOf s q reach n table)
 level-steps m s q reach n table i t p v k r x hi ht e h hk hr hx =
     level-loads m s q reach n table i t hi ht p v x e h
-    (hx ∙ ap (toStep (q .purpose) (q .access)) (hr ∙ ap (λ (y : Access). rawLoad y (q .user) (q .address) n v) hk) ∙ tested q n v)
+    (hx ∙ ap (toStep (q .purpose) (q .access)) (hr ∙ ap (λ (y : Access). rawLoad y (q .pages) (q .address) n v) hk) ∙ tested q n v)
 
 small-of : (p : Purpose) (x : Access) (r : Raw) → Tight r → Small (toStep p x r)
 small-of p x (Arrive a) h = h
@@ -70,17 +72,17 @@ step-small p x r t e h = subst Small (sym e) (small-of p x r h)
 pub ruleset level-ways = (level-stops, level-steps, stop-small, step-small)
 
 -- a turn of the walk of entries that lie where their addresses say
-module _ (m : ℕ → Load) (s : Scheme) (x : Access) (user : Bool) (a left table i : ℕ) (v : Load) (r w : Raw)
-    (p : 0 < left) (hi : i ≡ indexOf s a (left - 1)) (hv : v ≡ m (table * 4096 + 8 * i)) (hr : r ≡ rawLoad x user a (left - 1) v)
-    (hw : run m (rawLevels s x user a left table) ≡ w) where
-  raw-turned : (k : Raw) → r ≡ k → run m (onRaw (rawLevels s x user a (left - 1)) k) ≡ w
+module _ (m : ℕ → Load) (s : Scheme) (x : Access) (pages : Pages) (a left table i : ℕ) (v : Load) (r w : Raw)
+    (p : 0 < left) (hi : i ≡ indexOf s a (left - 1)) (hv : v ≡ m (table * 4096 + 8 * i)) (hr : r ≡ rawLoad x pages a (left - 1) v)
+    (hw : run m (rawLevels s x pages a left table) ≡ w) where
+  raw-turned : (k : Raw) → r ≡ k → run m (onRaw (rawLevels s x pages a (left - 1)) k) ≡ w
   unfolding rawLevels
   raw-turned k e =
-      ap (λ (y : Raw). run m (onRaw (rawLevels s x user a (left - 1)) y)) (sym e ∙ hr ∙ ap (rawLoad x user a (left - 1)) (hv ∙ ap (λ (j : ℕ). m (table * 4096 + 8 * j)) hi))
-      ∙ ap (λ (k : ℕ). run m (rawLevels s x user a k table)) (one-less left p)
+      ap (λ (y : Raw). run m (onRaw (rawLevels s x pages a (left - 1)) y)) (sym e ∙ hr ∙ ap (rawLoad x pages a (left - 1)) (hv ∙ ap (λ (j : ℕ). m (table * 4096 + 8 * j)) hi))
+      ∙ ap (λ (k : ℕ). run m (rawLevels s x pages a k table)) (one-less left p)
       ∙ hw
 
-  pub raw-goes : (k : ℕ) → r ≡ Raw.Next k → run m (rawLevels s x user a (left - 1) k) ≡ w
+  pub raw-goes : (k : ℕ) → r ≡ Raw.Next k → run m (rawLevels s x pages a (left - 1) k) ≡ w
   raw-goes k e = raw-turned (Raw.Next k) e
 
   -- the end, as a number and in its bounds
@@ -102,10 +104,10 @@ module _ (m : ℕ → Load) (s : Scheme) (x : Access) (user : Bool) (a left tabl
   pub end-unread : r ≡ Unread → Tight w
   end-unread e = subst Tight (raw-turned Unread e) tt
 
-module _ (m : ℕ → Load) (s : Scheme) (x : Access) (user : Bool) (a left table : ℕ) (w : Raw) (p : left ≤ 0) (hw : run m (rawLevels s x user a left table) ≡ w) where
+module _ (m : ℕ → Load) (s : Scheme) (x : Access) (pages : Pages) (a left table : ℕ) (w : Raw) (p : left ≤ 0) (hw : run m (rawLevels s x pages a left table) ≡ w) where
   no-leaf : Raw.Faulty ≡ w
   unfolding rawLevels
-  no-leaf = sym (ap (λ (k : ℕ). run m (rawLevels s x user a k table)) (none-left left p)) ∙ hw
+  no-leaf = sym (ap (λ (k : ℕ). run m (rawLevels s x pages a k table)) (none-left left p)) ∙ hw
 
   pub code-ends : faultyEnd ≡ codeOf w
   code-ends = ap codeOf no-leaf
@@ -113,9 +115,9 @@ module _ (m : ℕ → Load) (s : Scheme) (x : Access) (user : Bool) (a left tabl
   pub end-ends : Tight w
   end-ends = subst Tight no-leaf tt
 
-pub raw-starts : (m : ℕ → Load) (s : Scheme) (x : Access) (user : Bool) (a left root : ℕ)
-    → left ≡ levelsOf s → run m (rawLevels s x user a left root) ≡ run m (rawLevels s x user a (levelsOf s) root)
-raw-starts m s x user a left root h = ap (λ (k : ℕ). run m (rawLevels s x user a k root)) h
+pub raw-starts : (m : ℕ → Load) (s : Scheme) (x : Access) (pages : Pages) (a left root : ℕ)
+    → left ≡ levelsOf s → run m (rawLevels s x pages a left root) ≡ run m (rawLevels s x pages a (levelsOf s) root)
+raw-starts m s x pages a left root h = ap (λ (k : ℕ). run m (rawLevels s x pages a k root)) h
 
 pub tight-next : (r : Raw) (k : ℕ) → r ≡ Raw.Next k → Tight r → k < 2 ^ 44
 tight-next r k e h = subst Tight e h
@@ -164,11 +166,11 @@ module _ (m : ℕ → Load) (g : PageTable) (p : Purpose) (x : Access) (a : ℕ)
     second-illegal f l e = ap Fault e ∙ simp (h, ← hl, l)
 
     pub second-walks : (t : Translation) (k : Access) (n : ℕ) (r : Raw) → legal ≡ true → k ≡ askedOf p x
-        → r ≡ run m (rawLevels (g .scheme) k true a (levelsOf (g .scheme)) (g .root)) → Tight r → n ≡ codeOf r → t ≡ toldBy p x n → t ≡ run m (secondStageOf g p x a)
+        → r ≡ run m (rawLevels (g .scheme) k User a (levelsOf (g .scheme)) (g .root)) → Tight r → n ≡ codeOf r → t ≡ toldBy p x n → t ≡ run m (secondStageOf g p x a)
     unfolding secondStageOf walkOf
     second-walks t k n r l hk hr ht hn e =
         e ∙ ap (toldBy p x) hn ∙ coded p x r ht
-        ∙ ap (toldOf p x) (hr ∙ ap (λ (y : Access). run m (rawLevels (g .scheme) y true a (levelsOf (g .scheme)) (g .root))) hk)
+        ∙ ap (toldOf p x) (hr ∙ ap (λ (y : Access). run m (rawLevels (g .scheme) y User a (levelsOf (g .scheme)) (g .root))) hk)
         ∙ raw-walk m (g .scheme) (guestLookup p x a) (levelsOf (g .scheme)) (g .root)
         ∙ simp (h, ← hl, l)
 
@@ -192,28 +194,28 @@ bare-reach g q h =
     let reach : Bool → ℕ → Walk Translation = λ b a. pick b (walkOf (g .scheme) (guestLookup FirstStageEntry (q .access) a) direct (g .root)) (done (To a)) in
     ap reach h
 
-module _ (m : ℕ → Load) (f g : PageTable) (x : Access) (user : Bool) (a : ℕ) where
-  pub first-bare : f .on ≡ false → To a ≡ run m (firstStageOf f g x user a)
+module _ (m : ℕ → Load) (f g : PageTable) (x : Access) (pages : Pages) (a : ℕ) where
+  pub first-bare : f .on ≡ false → To a ≡ run m (firstStageOf f g x pages a)
   unfolding firstStageOf
   first-bare h = simp h
 
   module _ (legal : Bool) (t : Translation) (h : f .on ≡ true) (hl : legal ≡ legalOf (f .scheme) a) where
-    pub first-illegal : legal ≡ false → t ≡ faulted (deviceLookup x user a) → t ≡ run m (firstStageOf f g x user a)
+    pub first-illegal : legal ≡ false → t ≡ faulted (deviceLookup x pages a) → t ≡ run m (firstStageOf f g x pages a)
     unfolding firstStageOf walkOf
     first-illegal l e = e ∙ simp (h, ← hl, l)
 
-    pub first-walks : legal ≡ true → t ≡ run m (levels (f .scheme) (deviceLookup x user a) (entryReach g (deviceLookup x user a)) (levelsOf (f .scheme)) (f .root))
-        → t ≡ run m (firstStageOf f g x user a)
+    pub first-walks : legal ≡ true → t ≡ run m (levels (f .scheme) (deviceLookup x pages a) (entryReach g (deviceLookup x pages a)) (levelsOf (f .scheme)) (f .root))
+        → t ≡ run m (firstStageOf f g x pages a)
     unfolding firstStageOf walkOf
     first-walks l e = e ∙ simp (h, ← hl, l)
 
     -- "First-stage entries lie at guest addresses when the second stage is on", else where their addresses say
-    pub first-direct : (n : ℕ) (r : Raw) → legal ≡ true → g .on ≡ false → r ≡ run m (rawLevels (f .scheme) x user a (levelsOf (f .scheme)) (f .root))
-        → Tight r → n ≡ codeOf r → t ≡ toldBy FirstStage x n → t ≡ run m (firstStageOf f g x user a)
+    pub first-direct : (n : ℕ) (r : Raw) → legal ≡ true → g .on ≡ false → r ≡ run m (rawLevels (f .scheme) x pages a (levelsOf (f .scheme)) (f .root))
+        → Tight r → n ≡ codeOf r → t ≡ toldBy FirstStage x n → t ≡ run m (firstStageOf f g x pages a)
     first-direct n r l b e ht hn k =
         first-walks l
         (k ∙ ap (toldBy FirstStage x) hn ∙ coded FirstStage x r ht ∙ ap (toldOf FirstStage x) e
-        ∙ raw-walk m (f .scheme) (deviceLookup x user a) (levelsOf (f .scheme)) (f .root)
-        ∙ ap (λ (reach : ℕ → Walk Translation). run m (levels (f .scheme) (deviceLookup x user a) reach (levelsOf (f .scheme)) (f .root))) (sym (bare-reach g (deviceLookup x user a) b)))
+        ∙ raw-walk m (f .scheme) (deviceLookup x pages a) (levelsOf (f .scheme)) (f .root)
+        ∙ ap (λ (reach : ℕ → Walk Translation). run m (levels (f .scheme) (deviceLookup x pages a) reach (levelsOf (f .scheme)) (f .root))) (sym (bare-reach g (deviceLookup x pages a) b)))
 
 pub ruleset first-ways = (first-bare, first-illegal, first-walks, first-direct)

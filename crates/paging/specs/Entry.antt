@@ -6,6 +6,8 @@ use Rattle.memory.specs.Choice.{pick}
 use Rattle.memory.specs.Bits.{bits, bit, anySet}
 use Rattle.causes.specs.declared.Access.{Access}
 use Rattle.causes.specs.declared.Access.the-variants.{Read, Write, Execute}
+use Rattle.paging.specs.declared.Pages.{Pages}
+use Rattle.paging.specs.declared.Pages.the-variants.{User, Supervisor, Any}
 use Rattle.paging.specs.declared.Lookup.{Lookup}
 use Rattle.paging.specs.declared.Leaf.{Leaf}
 use Rattle.paging.specs.declared.Entry.{Entry}
@@ -52,14 +54,23 @@ permits Read l = l .r
 permits Write l = l .w && l .d
 permits Execute l = l .x
 
--- "a user request needs U = 1; a supervisor request needs U = 0"
-abbrev pub ownedBy : Bool → Leaf → Bool
-ownedBy true l = l .u
-ownedBy false l = not (l .u)
+-- a page by its U bit
+abbrev pub ownedBy : Pages → Leaf → Bool
+ownedBy User l = l .u
+ownedBy Supervisor l = not (l .u)
+ownedBy Any l = true
+
+-- the first-stage pages for a request, by whether it is a supervisor's, SUM, and the access. 01: "a user request needs U = 1; a supervisor request needs U = 0"; 02, Req 02: "SUM = 1 in the process context allows such reads and writes; read-for-execute stays barred" (D37)
+abbrev pub pagesFor : Bool → Bool → Access → Pages
+pagesFor false sum x = User
+pagesFor true false x = Supervisor
+pagesFor true true Read = Any
+pagesFor true true Write = Any
+pagesFor true true Execute = Supervisor
 
 -- "A = 0" faults
 unfoldable pub allows : Lookup → Leaf → Bool
-allows q l = l .a && (ownedBy (q .user) l && permits (askedOf (q .purpose) (q .access)) l)
+allows q l = l .a && (ownedBy (q .pages) l && permits (askedOf (q .purpose) (q .access)) l)
 
 -- a page of level n: "a large page whose low page number isn't zero" faults; the offset within the page is kept
 unfoldable pub mappedBy : Lookup → ℕ → Leaf → Translation

@@ -1,12 +1,13 @@
 -- The two stages of translation (003, step 17 and step 19; Priv, "Two-Stage Address Translation").
 use Prim.Native.Nat.{ℕ}
-use mathlib.Core.Bool.{Bool, true}
 use Rattle.memory.specs.Choice.{pick}
 use Rattle.memory.specs.Walk.{Walk, done}
 use Rattle.causes.specs.declared.Access.{Access}
 use Rattle.paging.specs.declared.PageTable.{PageTable}
 use Rattle.paging.specs.declared.Purpose.{Purpose}
 use Rattle.paging.specs.declared.Purpose.the-variants.{FirstStage, FirstStageEntry}
+use Rattle.paging.specs.declared.Pages.{Pages}
+use Rattle.paging.specs.declared.Pages.the-variants.{User}
 use Rattle.paging.specs.declared.Lookup.{Lookup}
 use Rattle.paging.specs.declared.Translation.{Translation}
 use Rattle.paging.specs.declared.Translation.the-variants.{To}
@@ -18,7 +19,7 @@ direct a = done (To a)
 
 -- "Second stage: U = 1 always"
 abbrev pub guestLookup : Purpose → Access → ℕ → Lookup
-guestLookup p x a = record { address = a; access = x; purpose = p; user = true }
+guestLookup p x a = record { address = a; access = x; purpose = p; pages = User }
 
 -- a guest address, by the second stage; unchanged where that is Bare
 unfoldable pub secondStageOf : PageTable → Purpose → Access → ℕ → Walk Translation
@@ -28,10 +29,10 @@ secondStageOf g p x a = pick (g .on) (walkOf (g .scheme) (guestLookup p x a) dir
 abbrev pub entryReach : PageTable → Lookup → ℕ → Walk Translation
 entryReach g q a = secondStageOf g FirstStageEntry (q .access) a
 
-abbrev pub deviceLookup : Access → Bool → ℕ → Lookup
-deviceLookup x user a = record { address = a; access = x; purpose = FirstStage; user = user }
+abbrev pub deviceLookup : Access → Pages → ℕ → Lookup
+deviceLookup x pages a = record { address = a; access = x; purpose = FirstStage; pages = pages }
 
 -- the device's address, by the first stage; unchanged where that is Bare
-unfoldable pub firstStageOf : PageTable → PageTable → Access → Bool → ℕ → Walk Translation
-firstStageOf f g x user a =
-    pick (f .on) (walkOf (f .scheme) (deviceLookup x user a) (entryReach g (deviceLookup x user a)) (f .root)) (done (To a))
+unfoldable pub firstStageOf : PageTable → PageTable → Access → Pages → ℕ → Walk Translation
+firstStageOf f g x pages a =
+    pick (f .on) (walkOf (f .scheme) (deviceLookup x pages a) (entryReach g (deviceLookup x pages a)) (f .root)) (done (To a))

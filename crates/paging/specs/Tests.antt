@@ -11,6 +11,7 @@ use Rattle.causes.specs.declared.Access.{Access}
 use Rattle.causes.specs.declared.Access.the-variants.{Read, Write, Execute}
 use Rattle.paging.specs.declared.Scheme.{Scheme}
 use Rattle.paging.specs.declared.Purpose.{Purpose}
+use Rattle.paging.specs.declared.Pages.{Pages}
 use Rattle.paging.specs.declared.Translation.{Translation}
 use Rattle.paging.specs.declared.Translation.the-variants.{To, Fault}
 use Rattle.paging.specs.declared.Step.{Step}
@@ -38,16 +39,16 @@ permitOf Execute r w x d = x && (r || not w)
 abbrev pub permitBits : Access → ℕ → Bool
 permitBits x e = permitOf x (bit e 1) (bit e 2) (bit e 3) (bit e 7)
 
-unfoldable pub leafBits : ℕ → Bool → Access → Bool
-leafBits e user x = soundBits e && bit e 6 && ownedBy user (leafOf e) && permitBits x e
+unfoldable pub leafBits : ℕ → Pages → Access → Bool
+leafBits e pages x = soundBits e && bit e 6 && ownedBy pages (leafOf e) && permitBits x e
 
 -- what a loaded entry of level n leads to, where the page must permit x
-unfoldable pub rawLoad : Access → Bool → ℕ → ℕ → Load → Raw
-rawLoad x user a n Violation = Unread
-rawLoad x user a n (Value e) =
+unfoldable pub rawLoad : Access → Pages → ℕ → ℕ → Load → Raw
+rawLoad x pages a n Violation = Unread
+rawLoad x pages a n (Value e) =
     pick (tableBits e)
     (Next (pageOf e))
-    (pick (leafBits e user x && eqb (pageOf e % 2 ^ (9 * n)) 0) (Arrive (pageOf e * 4096 + a % 2 ^ pageBitsOf n)) Faulty)
+    (pick (leafBits e pages x && eqb (pageOf e % 2 ^ (9 * n)) 0) (Arrive (pageOf e * 4096 + a % 2 ^ pageBitsOf n)) Faulty)
 
 -- with its cause
 abbrev pub toStep : Purpose → Access → Raw → Step
@@ -86,11 +87,11 @@ onRaw next Faulty = done Faulty
 onRaw next Unread = done Unread
 
 -- a walk of entries that lie where their addresses say
-module _ (s : Scheme) (x : Access) (user : Bool) (a : ℕ) where
+module _ (s : Scheme) (x : Access) (pages : Pages) (a : ℕ) where
   unfoldable pub rawLevels : ℕ → ℕ → Walk Raw
   unfolding rawLoad
   rawLevels zero table = done Faulty
-  rawLevels (suc n) table = load (table * 4096 + 8 * indexOf s a n) (λ v. onRaw (rawLevels n) (rawLoad x user a n v))
+  rawLevels (suc n) table = load (table * 4096 + 8 * indexOf s a n) (λ v. onRaw (rawLevels n) (rawLoad x pages a n v))
 
 -- bounds that sums need
 abbrev pub Tight : Raw → Type 0

@@ -11,7 +11,7 @@ ghost use Rattle.causes.specs.Causes.{faultAt};
 ghost use Rattle.causes.specs.declared.Stage.the-variants.{Second};
 ghost use Rattle.paging.specs.Scheme.{levelsOf, rootBitsOf, addressBitsOf, signedOf, legalOf, pageBitsOf, indexOf};
 ghost use Rattle.paging.specs.Purpose.{askedOf, pageFaultOf, accessFaultOf};
-ghost use Rattle.paging.specs.Entry.{leafOf, ownedBy};
+ghost use Rattle.paging.specs.Entry.{leafOf, ownedBy, pagesFor};
 ghost use Rattle.paging.specs.Levels.{faulted as faultedOf, levelOf, levels as levelsFrom};
 ghost use Rattle.paging.specs.Stages.{secondStageOf, entryReach, firstStageOf};
 ghost use Rattle.paging.specs.Within.{Within, Small};
@@ -42,12 +42,22 @@ pub enum Purpose {
     ProcessEntry,
 }
 
-// What is asked of one table. `user`: pages must have U = 1, else U = 0.
+// The pages that may be used, by their U bit.
+pub enum Pages {
+    // U = 1.
+    User,
+    // U = 0.
+    Supervisor,
+    // Either.
+    Any,
+}
+
+// What is asked of one table.
 pub struct Lookup {
     pub address: u64,
     pub access: Access,
     pub purpose: Purpose,
-    pub user: bool,
+    pub pages: Pages,
 }
 
 // A page-table entry that maps a page, as the definitions speak of it; the code tests its bits in place.
@@ -184,13 +194,27 @@ fn is_table(e: u64) -> bool
         & !memory::bit(e, 7)
 }
 
-fn owned(user: bool, e: u64) -> bool
-    ensures { λ r. ⌜ r ≡ ownedBy user (leafOf e) ⌝ }
+// The pages that a request may use in the first stage: SUM opens user pages to a supervisor's reads and writes.
+pub fn pages_for(supervisor: bool, sum: bool, x: Access) -> Pages
+    ensures { λ r. ⌜ r ≡ pagesFor supervisor sum x ⌝ }
 {
-    if user {
-        memory::bit(e, 4)
-    } else {
-        !memory::bit(e, 4)
+    if supervisor {
+        if sum & !causes::is_execute(x) {
+            return Pages::Any;
+        }
+        return Pages::Supervisor;
+    }
+    Pages::User
+}
+
+fn owned(pages: Pages, e: u64) -> bool
+    ensures { λ r. ⌜ r ≡ ownedBy pages (leafOf e) ⌝ }
+{
+    let u = memory::bit(e, 4);
+    match pages {
+        Pages::User => u,
+        Pages::Supervisor => !u,
+        Pages::Any => true,
     }
 }
 
@@ -206,10 +230,10 @@ fn permitted(x: Access, e: u64) -> bool
 }
 
 // A leaf whose page permits an access.
-fn is_leaf(e: u64, user: bool, x: Access) -> bool
-    ensures { λ r. ⌜ r ≡ leafBits e user x ⌝ }
+fn is_leaf(e: u64, pages: Pages, x: Access) -> bool
+    ensures { λ r. ⌜ r ≡ leafBits e pages x ⌝ }
 {
-    sound(e) & memory::bit(e, 6) & owned(user, e) & permitted(x, e)
+    sound(e) & memory::bit(e, 6) & owned(pages, e) & permitted(x, e)
 }
 
 // The access that the page must permit: an implicit access is a read.
@@ -281,9 +305,9 @@ fn offset(a: u64, n: u64) -> u64
 }
 
 // What a loaded entry of level n leads to.
-fn read_entry(x: Access, user: bool, a: u64, n: u64, v: Load) -> Raw
+fn read_entry(x: Access, pages: Pages, a: u64, n: u64, v: Load) -> Raw
     requires { ⌜ n < 5 ⌝ }
-    ensures { λ r. ⌜ (r ≡ rawLoad x user a n v) × Tight r ⌝ }
+    ensures { λ r. ⌜ (r ≡ rawLoad x pages a n v) × Tight r ⌝ }
 {
     let Load::Value(e) = v else {
         return Raw::Unread;
@@ -292,7 +316,7 @@ fn read_entry(x: Access, user: bool, a: u64, n: u64, v: Load) -> Raw
     if is_table(e) {
         return Raw::Next(page);
     }
-    if is_leaf(e, user, x) {
+    if is_leaf(e, pages, x) {
         if page % power(Scheme::INDEX_BITS * n) == 0 {
             return Raw::Arrive(page * 4096 + offset(a, n));
         }
@@ -307,16 +331,16 @@ const FAULTY: u64 = 9223372036854775808;
 const UNREAD: u64 = 9223372036854775809;
 
 // The walk of a table whose entries lie where their addresses say. Its end is one number, so that it comes back in a register; causes come after it.
-fn descend(s: Scheme, x: Access, user: bool, a: u64, start: u64, window: &[u8], root: u64) -> u64
+fn descend(s: Scheme, x: Access, pages: Pages, a: u64, start: u64, window: &[u8], root: u64) -> u64
     requires { ⌜ root < 2 ^ 44 ⌝ }
-    ensures { λ r. ⌜ (r ≡ codeOf (run (memory start (now (window .entry))) (rawLevels s x user a (levelsOf s) root))) × Tight (run (memory start (now (window .entry))) (rawLevels s x user a (levelsOf s) root)) ⌝ }
+    ensures { λ r. ⌜ (r ≡ codeOf (run (memory start (now (window .entry))) (rawLevels s x pages a (levelsOf s) root))) × Tight (run (memory start (now (window .entry))) (rawLevels s x pages a (levelsOf s) root)) ⌝ }
 {
     let mut left = s.levels();
     let mut table = root;
     while 0 < left {
         left -= 1;
         let at = table * 4096 + 8 * s.index(a, left);
-        match read_entry(x, user, a, left, memory::load64(start, window, at)) {
+        match read_entry(x, pages, a, left, memory::load64(start, window, at)) {
             Raw::Next(next) => {
                 table = next;
             }
@@ -377,7 +401,7 @@ pub fn second_stage(
             return told(
                 p,
                 x,
-                descend(s, asked(p, x), true, a, start, window, g.root),
+                descend(s, asked(p, x), Pages::User, a, start, window, g.root),
             );
         }
         return Translation::Fault(page_fault(p, x));
@@ -406,10 +430,11 @@ fn guest_level(
     };
     let o = q.purpose;
     let k = asked(o, x);
+    let pages = q.pages;
     stepped(
         o,
         x,
-        read_entry(k, q.user, q.address, n, memory::load64(start, window, p)),
+        read_entry(k, pages, q.address, n, memory::load64(start, window, p)),
     )
 }
 
@@ -445,13 +470,13 @@ pub fn first_stage(
     f: PageTable,
     g: PageTable,
     x: Access,
-    user: bool,
+    pages: Pages,
     start: u64,
     window: &[u8],
     a: u64,
 ) -> Translation
     requires { ⌜ (f .root < 2 ^ 44) × (g .root < 2 ^ 44) ⌝ }
-    ensures { λ r. ⌜ r ≡ run (memory start (now (window .entry))) (firstStageOf f g x user a) ⌝ }
+    ensures { λ r. ⌜ r ≡ run (memory start (now (window .entry))) (firstStageOf f g x pages a) ⌝ }
 {
     if f.on {
         let s = f.scheme;
@@ -459,14 +484,14 @@ pub fn first_stage(
             address: a,
             access: x,
             purpose: Purpose::FirstStage,
-            user,
+            pages,
         };
         if s.legal(a) {
             if g.on {
                 return guest_descend(s, q, g, start, window, f.root);
             }
             let o = Purpose::FirstStage;
-            return told(o, x, descend(s, x, user, a, start, window, f.root));
+            return told(o, x, descend(s, x, pages, a, start, window, f.root));
         }
         return faulted(q);
     }

@@ -40,6 +40,9 @@ returns-3 c = search (table-ways, needs)
 iosatp-requires : tie.Need-iosatp-requires
 iosatp-requires c κs = search needs
 
+bit-requires-2 : tie.Need-bit-requires-2
+bit-requires-2 c κs = search needs
+
 returns-4 : tie.Need-returns-4
 returns-4 c = search (table-ways, needs)
 
@@ -59,4 +62,5 @@ process-table-spec =
     disallowed-requires
     returns-3
     iosatp-requires
+    bit-requires-2
     returns-4)

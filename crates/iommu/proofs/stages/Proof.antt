@@ -10,6 +10,9 @@ translated-by-requires c κs = search needs
 second-table-requires : tie.Need-second-table-requires
 second-table-requires c κs = search needs
 
+pages-for-requires : tie.Need-pages-for-requires
+pages-for-requires c κs = search needs
+
 first-stage-requires : tie.Need-first-stage-requires
 first-stage-requires c κs = search needs
 
@@ -43,6 +46,7 @@ stages-spec =
     (tie.spec
     translated-by-requires
     second-table-requires
+    pages-for-requires
     first-stage-requires
     enum-known-t
     enum-told

@@ -11,12 +11,12 @@ use Rattle.paging.proofs.descend.Statement.{statement}
 use Rattle.paging.proofs.descend.Tie as tie
 
 abbrev Inv-loop : tie.InvT-loop
-Inv-loop s x user a start window root left₀ table₀ left table =
+Inv-loop s x pages a start window root left₀ table₀ left table =
     (left < 6) × (table < 2 ^ 44)
-    × (run (memory start window) (rawLevels s x user a left table) ≡ run (memory start window) (rawLevels s x user a (levelsOf s) root))
+    × (run (memory start window) (rawLevels s x pages a left table) ≡ run (memory start window) (rawLevels s x pages a (levelsOf s) root))
 
 abbrev μ-loop : tie.MeasureT-loop
-μ-loop s x user a start window root left₀ table₀ left table = left
+μ-loop s x pages a start window root left₀ table₀ left table = left
 
 levels-requires : tie.Need-levels-requires Inv-loop μ-loop
 levels-requires c κs = search (raw-ways, needs)
