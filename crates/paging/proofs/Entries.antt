@@ -1,5 +1,5 @@
 -- A page-table entry and its step, by the tests that the code makes. Assumes nothing.
-use Prim.Native.Nat.{ℕ, _+_, _*_, _/_, _%_, _^_, _<_, _≤_}
+use Prim.Native.Nat.{ℕ, zero, suc, _+_, _*_, _/_, _%_, _^_, _<_, _≤_}
 use mathlib.Core.Bool.{Bool, true, false, not, _&&_, _||_}
 use mathlib.Core.Path.{_≡_, refl, sym, ap, _∙_}
 use native.Mathlib.Omega.{arith}
@@ -104,14 +104,25 @@ module _ (p : Purpose) (x : Access) (r : ℕ) where
 pub ruleset told-ways = (told-address, told-faulty, told-unread)
 
 -- the joined tests
-module _ (pages : Pages) (u : Bool) (e : ℕ) (h : u ≡ bit e 4) where
-  pub own-user : pages ≡ User → u ≡ ownedBy pages (leafOf e)
-  own-user t = h ∙ sym (ap (λ (k : Pages). ownedBy k (leafOf e)) t)
+one-of : (n : ℕ) → n < 2 → not (eqb n 0) ≡ eqb n 1
+one-of zero h = refl
+one-of (suc zero) h = refl
+one-of (suc (suc n)) h = absurd (omega arith)
 
-  pub own-supervisor : pages ≡ Supervisor → not u ≡ ownedBy pages (leafOf e)
-  own-supervisor t = ap not h ∙ sym (ap (λ (k : Pages). ownedBy k (leafOf e)) t)
+module _ (pages : Pages) (e : ℕ) where
+  kind-is : {kind : Pages} {b : Bool} → pages ≡ kind → b ≡ ownedBy kind (leafOf e) → b ≡ ownedBy pages (leafOf e)
+  kind-is t h = h ∙ sym (ap (λ (k : Pages). ownedBy k (leafOf e)) t)
 
-pub ruleset own-ways = (own-user, own-supervisor)
+  pub bars-zero : pages ≡ User → not (eqb (e / 16 % 2) 0) ≡ ownedBy pages (leafOf e)
+  bars-zero t = kind-is t (one-of (e / 16 % 2) (omega arith))
+
+  pub bars-one : pages ≡ Supervisor → not (eqb (e / 16 % 2) 1) ≡ ownedBy pages (leafOf e)
+  bars-one t = kind-is t refl
+
+  pub bars-none : pages ≡ Any → not (eqb (e / 16 % 2) 2) ≡ ownedBy pages (leafOf e)
+  bars-none t = kind-is t (ap not (ne-eqb (e / 16 % 2) 2 (λ h. omega arith)))
+
+pub ruleset bar-ways = (bars-zero, bars-one, bars-none)
 
 -- the pages for a request, by the tests that the code makes
 pages-table : (v s : Bool) (x : Access) → pick v (pick (s && not (isExecute x)) Any Supervisor) User ≡ pagesFor v s x

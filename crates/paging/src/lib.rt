@@ -4,7 +4,9 @@ use causes::FaultInfo;
 use causes::Stage;
 use memory::Load;
 ghost use mathlib.Core.Path.{_≡_};
-ghost use Prim.Native.Nat.{_%_, _<_, _^_};
+ghost use mathlib.Core.Bool.{not};
+ghost use lib.Dec.{eqb};
+ghost use Prim.Native.Nat.{ℕ, _/_, _%_, _<_, _^_};
 ghost use Rattle.memory.specs.Window.{memory};
 ghost use Rattle.memory.specs.Walk.{run};
 ghost use Rattle.causes.specs.Causes.{faultAt};
@@ -207,15 +209,21 @@ pub fn pages_for(supervisor: bool, sum: bool, x: Access) -> Pages
     Pages::User
 }
 
+// The U bit that bars a page; 2, which it never is, where none does. A number, so that an entry's test has no branch.
+fn barred(pages: Pages) -> u64
+    ensures { λ r. ⌜ ((e : ℕ) → not (eqb (e / 16 % 2) r) ≡ ownedBy pages (leafOf e)) ⌝ }
+{
+    match pages {
+        Pages::User => 0,
+        Pages::Supervisor => 1,
+        Pages::Any => 2,
+    }
+}
+
 fn owned(pages: Pages, e: u64) -> bool
     ensures { λ r. ⌜ r ≡ ownedBy pages (leafOf e) ⌝ }
 {
-    let u = memory::bit(e, 4);
-    match pages {
-        Pages::User => u,
-        Pages::Supervisor => !u,
-        Pages::Any => true,
-    }
+    e / 16 % 2 != barred(pages)
 }
 
 // No branch by the access: reads and writes come mixed, and a branch would be guessed wrong.
