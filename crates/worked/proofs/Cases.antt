@@ -19,6 +19,7 @@ use Rattle.iommu.specs.Request.{storableAs, finish, requestOf, afterRequest}
 use Rattle.worked.specs.Layout.{window, settings}
 use Rattle.worked.specs.Table.{Agrees, table}
 use Rattle.worked.specs.Limits.{limits}
+use Rattle.worked.specs.Supervisor.{pages, supervisors}
 
 pub cases : Agrees table
 unfolding onesIn ones memory legalOf indexOf entryOf allows mappedBy onLoad levelOf levels walkOf secondStageOf firstStageOf pointerOf pointers tooWide deviceMisconfigured deviceContextAt deviceContextOf processMisconfigured processContextAt processContextOf processTable firstTableOf recognised packed extract translateReserved recordReserved onNotice onTranslate onEntry messageOf bitAt raised lowered isFile pendingOf afterStore afterTake badWindow requestRefusal untranslated isMessage guestOf stagesOf directoryOf translateOf storableAs finish requestOf afterRequest window settings table
@@ -27,3 +28,7 @@ cases = (refl, (refl, (refl, (refl, (refl, (refl, (refl, (refl, (refl, (refl, (r
 pub limits-hold : Agrees limits
 unfolding legalOf isFile badWindow limits
 limits-hold = (refl, (refl, (refl, (refl, (refl, (refl, (refl, (refl, (refl, (refl, (refl, (refl, (refl, (refl, (refl, (refl, tt))))))))))))))))
+
+pub supervisors-hold : Agrees supervisors
+unfolding memory legalOf indexOf entryOf allows mappedBy onLoad levelOf levels walkOf secondStageOf firstStageOf pointerOf pointers tooWide deviceMisconfigured deviceContextAt deviceContextOf processMisconfigured processContextAt processContextOf processTable firstTableOf badWindow requestRefusal untranslated isMessage guestOf stagesOf directoryOf translateOf finish requestOf settings pages supervisors
+supervisors-hold = (refl, (refl, (refl, (refl, (refl, (refl, (refl, (refl, (refl, (refl, (refl, (refl, (refl, (refl, (refl, (refl, (refl, (refl, (refl, (refl, (refl, (refl, (refl, (refl, tt))))))))))))))))))))))))

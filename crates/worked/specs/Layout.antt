@@ -14,7 +14,7 @@ eight v =
     v % 256 ∷ v / 2 ^ 8 % 256 ∷ v / 2 ^ 16 % 256 ∷ v / 2 ^ 24 % 256 ∷ v / 2 ^ 32 % 256 ∷ v / 2 ^ 40 % 256
     ∷ v / 2 ^ 48 % 256 ∷ v / 2 ^ 56 % 256 ∷ []
 
-words : List ℕ → List ℕ
+unfoldable pub words : List ℕ → List ℕ
 unfolding eight
 words [] = []
 words (v ∷ vs) = eight v ++ words vs
