@@ -104,7 +104,10 @@ extern "C" {
 #define YASMUREKH_WRITE 1u
 #define YASMUREKH_READ_FOR_EXECUTE 2u
 
-/* Flags, to be added up. */
+/*
+ * Flags, to be added up. A user uses first-stage pages with U = 1. A supervisor uses those with U = 0 and, where SUM is
+ * 1 in its process context, reads and writes those with U = 1 too.
+ */
 #define YASMUREKH_PROCESS_GIVEN 1u /* the request has a process_id */
 #define YASMUREKH_SUPERVISOR 2u    /* the request is a supervisor's */
 

@@ -83,9 +83,10 @@ impl fmt::Display for Access {
 /// The privilege that a request asks with.
 #[derive(Clone, Copy, Debug, PartialEq, Eq, PartialOrd, Ord, Hash)]
 pub enum Privilege {
-    /// User.
+    /// User: first-stage pages with U = 1.
     User,
-    /// Supervisor: legal only with a process_id.
+    /// Supervisor: legal only with a process_id. First-stage pages with U = 0; where SUM is 1 in the
+    /// process context, reads and writes of those with U = 1 too.
     Supervisor,
 }
 

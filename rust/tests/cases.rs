@@ -161,6 +161,57 @@ fn p14_execute_at_a_message() {
     assert_eq!(changed, []);
 }
 
+/// SUM opens user pages to a supervisor's reads and writes, and changes nothing else.
+#[test]
+fn supervisor_on_user_pages() {
+    let mut window = vec![0; 3 * 4096];
+    put(&mut window, 0, 0b100001); // V, PDTV
+    put(&mut window, 24, 0x1000_0000_0004_0001); // PD8
+    for (process, ta) in [(0, 0b011), (1, 0b111)] {
+        put(&mut window, 4096 + 16 * process, ta); // V, ENS; for process 1 SUM
+        put(&mut window, 4096 + 16 * process + 8, 0x8000_0000_0004_0002);
+    }
+    // Two pages of 1 GiB with V, R, W, X, A, D: U = 0, then U = 1.
+    put(&mut window, 8192, 0x2000_00CF);
+    put(&mut window, 8192 + 8, 0x3000_00DF);
+
+    let own = (0x1234, Answer::Translated(0x8000_1234));
+    let users = (0x4000_1234, Answer::Translated(0xC000_1234));
+    for (access, cause) in [
+        (Access::Read, 13),
+        (Access::Write, 15),
+        (Access::ReadForExecute, 12),
+    ] {
+        for sum in [0, 1] {
+            let opened = sum == 1 && access != Access::ReadForExecute;
+            for (supervisor, (address, reached), open) in [
+                (true, own, true),
+                (true, users, opened),
+                (false, own, false),
+                (false, users, true),
+            ] {
+                let asked = Request {
+                    access,
+                    ..Request::read(0, address, 4).with_process(sum)
+                };
+                let asked = if supervisor {
+                    asked.as_supervisor()
+                } else {
+                    asked
+                };
+                let expected = if open {
+                    reached
+                } else {
+                    fault(cause, Stage::First)
+                };
+                let (answer, changed) = run(&mut window, &asked);
+                assert_eq!(answer, expected, "{asked:?}");
+                assert_eq!(changed, []);
+            }
+        }
+    }
+}
+
 /// A request that breaks every rule, mended rule by rule: each refusal comes in its turn.
 #[test]
 fn refusals_in_order() {
