@@ -366,6 +366,11 @@ const TC: u64 = 1 | 1 << 4 | PDTV | DPE;
 const MIDDLE: u64 = 0xFFFF << 44;
 /// PSCID in a device's ta.
 const PSCID: u64 = 0xF_FFFF << 12;
+/// ENS and SUM in a process's ta.
+const ENS: u64 = 1 << 1;
+const SUM: u64 = 1 << 2;
+/// Tells the first stage to leave U alone, in a bit of iosatp that is 0 in memory.
+const ANY_U: u64 = 1 << 44;
 
 /// The page that a directory's non-leaf entry names.
 #[inline]
@@ -426,7 +431,7 @@ fn misconfigured(context: &[u64; 8]) -> bool {
     set != 0 || first_wrong || second_wrong
 }
 
-/// The iosatp of a request under PDTV = 1; 0 where the first stage is Bare.
+/// The iosatp of a request under PDTV = 1; a Bare one has mode 0.
 fn process_first_stage(
     memory: Memory,
     tc: u64,
@@ -463,18 +468,25 @@ fn process_first_stage(
         table = non_leaf(entry.ok_or(PDT_LOAD)?, PDT_INVALID, PDT_MISCONFIGURED)?;
     }
     let place = reach(table + (process & 0xFF) * 16)?;
+    process_context(memory, place, request)
+}
+
+/// The iosatp of a process context, with ANY_U where SUM opens user pages to the request.
+#[inline]
+fn process_context(memory: Memory, place: u64, request: &Request) -> Result<u64, Fault> {
     let [ta, fsc] = memory.load_all(place).ok_or(PDT_LOAD)?;
     if ta & V == 0 {
         return Err(PDT_INVALID);
     }
-    let set = ta & !(PSCID | 7) | fsc & MIDDLE | (fsc >> 60 & !8);
+    let set = ta & !(PSCID | V | ENS | SUM) | fsc & MIDDLE | (fsc >> 60 & !8);
     if set != 0 {
         return Err(PDT_MISCONFIGURED);
     }
-    if request.supervisor && ta & 2 == 0 {
+    if request.supervisor && ta & ENS == 0 {
         return Err(DISALLOWED);
     }
-    Ok(fsc)
+    let by_sum = request.supervisor && ta & SUM != 0 && request.access != Access::Execute;
+    Ok(fsc | if by_sum { ANY_U } else { 0 })
 }
 
 /// How the first stage fails: by itself, or in the second stage's walk to an entry.
@@ -503,7 +515,7 @@ fn first_stage(
         return Err(page_fault(access));
     }
     let need = needs(access);
-    let mask = HIGH | need | U;
+    let mask = HIGH | need | if iosatp & ANY_U == 0 { U } else { 0 };
     let need = if request.supervisor { need } else { need | U };
     let root = (iosatp & PAGE_NUMBER) << 12;
     let reach = |address: u64| match second {

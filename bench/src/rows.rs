@@ -173,6 +173,16 @@ fn processes() -> Plan {
     }
 }
 
+/// Supervisor requests onto pages with U = 1.
+fn by_sum() -> Row {
+    let name = "PD20 and both stages, supervisor under SUM = 1";
+    let mut row = row(name, processes(), &[0]);
+    for call in &mut row.calls {
+        call.flags |= SUPERVISOR;
+    }
+    row
+}
+
 fn faults() -> Vec<Row> {
     let both = Plan::default();
     vec![
@@ -287,6 +297,7 @@ pub fn main_rows() -> Vec<Row> {
         row("first stage only, 4 KiB", plan(Some(0), None, 64), &[0]),
         row("second stage only, 4 KiB", plan(None, Some(0), 64), &[0]),
         row("PD20 and both stages, 4 KiB / 4 KiB", processes(), &[0]),
+        by_sum(),
         messages("stored, both stages, mask of 8 ones", 0xFF, Some(0)),
     ];
     rows.extend(masks());

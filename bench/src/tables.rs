@@ -19,6 +19,8 @@ const PATTERN: u64 = 0x28000;
 const TABLE: u64 = 1;
 /// V, R, W, X, U, A, D.
 const USER_LEAF: u64 = 0xDF;
+/// V, ENS, SUM of a process context: supervisors may use the user pages.
+const PROCESS: u64 = 7;
 
 /// What the tables of a row are to hold.
 #[derive(Clone, Copy, Debug)]
@@ -314,7 +316,7 @@ impl World {
                 Some(level) => self.add_first_stage(space, level),
                 None => 0,
             };
-            self.put(place, 1);
+            self.put(place, PROCESS);
             self.put(place + 8, fsc);
         }
         let named = self.name(space, directory);

@@ -2,9 +2,12 @@
 //! printed text.
 
 use yasmurekh_compare::{run, Comparison, Difference, Found, Library, Options, Reference, Side};
+use yasmurekh_reference::coverage::run_call;
 use yasmurekh_reference::generate::{Call, List};
+use yasmurekh_reference::mark::{Mark, UserBit, Walk};
 use yasmurekh_reference::text::read_lists;
-use yasmurekh_reference::{Answer, Report, Stage};
+use yasmurekh_reference::types::page_fault;
+use yasmurekh_reference::{report, Access, Answer, Report, Stage};
 
 /// A side with something done to its answers, its windows and its reports.
 struct Mutant<S> {
@@ -71,6 +74,14 @@ fn ones(list: &List) -> u32 {
     list.window.iter().map(|byte| byte.count_ones()).sum()
 }
 
+/// The doublewords that aren't zero.
+fn words(list: &List) -> usize {
+    let words = list.window.chunks(8);
+    words
+        .filter(|word| word.iter().any(|byte| *byte != 0))
+        .count()
+}
+
 #[test]
 fn no_difference_without_a_mutation() {
     let mut comparison = Comparison::new(Library, Reference::default());
@@ -118,8 +129,9 @@ fn another_stage() {
         },
         _ => answer,
     });
+    // A directory of at most three levels, and two words of a context.
     assert_eq!(found.smallest.calls.len(), 1);
-    assert!(ones(&found.smallest) < 40);
+    assert!(words(&found.smallest) < 5);
 }
 
 #[test]
@@ -203,6 +215,88 @@ fn a_made_up_count() {
     ));
     assert_eq!(found.smallest.calls.len(), 1);
     assert_eq!(ones(&found.smallest), 1);
+}
+
+/// The reference with another rule of U for supervisors.
+struct OtherRule {
+    /// The looks at a first-stage leaf's U bit that end the other way.
+    other: fn(&UserBit) -> bool,
+}
+
+impl Side for OtherRule {
+    fn call(&mut self, start: u64, window: &mut [u8], call: &Call) -> Answer {
+        let before = window.to_vec();
+        let mut changed = None;
+        let answer = run_call(start, window, call, &mut |mark| match mark {
+            Mark::User(Walk::First, look) if (self.other)(&look) => changed = Some(look),
+            _ => {}
+        });
+        let Some(look) = changed else {
+            return answer;
+        };
+        window.copy_from_slice(&before);
+        if look.open {
+            return Answer::Fault {
+                cause: page_fault(look.access),
+                stage: Stage::First,
+            };
+        }
+        // A page with U = 1 that is barred to a supervisor is open to a user.
+        let mut as_user = *call;
+        if let Call::Request { request, .. } = &mut as_user {
+            request.supervisor = false;
+        }
+        run_call(start, window, &as_user, &mut |_| {})
+    }
+
+    fn report(&mut self, start: u64, window: &[u8], file: u64) -> Report {
+        report(start, window, file)
+    }
+}
+
+/// Another rule of U against the reference: the answers of the two to the smallest case, which is
+/// one supervisor request.
+fn find_rule(other: fn(&UserBit) -> bool) -> [Answer; 2] {
+    let found = find(OtherRule { other }, Reference::default());
+    let [Call::Request { request, .. }] = found.smallest.calls[..] else {
+        panic!("more than one request");
+    };
+    assert!(request.supervisor);
+    match found.smallest_difference {
+        Difference::Answer {
+            library, reference, ..
+        } => [library, reference],
+        other => panic!("{other}"),
+    }
+}
+
+fn is_page_fault(answer: Answer) -> bool {
+    let first = answer.stage() == Some(Stage::First);
+    first && [12, 13, 15].contains(&answer.numbers()[1])
+}
+
+#[test]
+fn user_pages_barred_under_sum() {
+    let [other, reference] = find_rule(|look| look.supervisor && look.user && look.open);
+    assert!(is_page_fault(other) && !is_page_fault(reference));
+}
+
+#[test]
+fn user_pages_open_without_sum() {
+    let [other, reference] = find_rule(|look| {
+        let without_sum = look.supervisor && look.user && look.sum == Some(false);
+        without_sum && look.access != Access::ReadForExecute
+    });
+    assert!(!is_page_fault(other) && is_page_fault(reference));
+}
+
+#[test]
+fn user_pages_open_to_read_for_execute() {
+    let [other, reference] = find_rule(|look| {
+        let by_sum = look.supervisor && look.user && look.sum == Some(true);
+        by_sum && look.access == Access::ReadForExecute
+    });
+    assert!(!is_page_fault(other) && is_page_fault(reference));
 }
 
 /// The same mutation on both sides, so that only the ledger can find it.

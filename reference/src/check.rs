@@ -60,6 +60,9 @@ pub fn all() -> Vec<Check> {
     second_stage_limits(&mut checks);
     context_bits(&mut checks);
     process_rules(&mut checks);
+    user_rule(&mut checks);
+    user_rule_alone(&mut checks);
+    user_rule_below(&mut checks);
     two_stage_rules(&mut checks);
     message_rules(&mut checks);
     ledger_rules(&mut checks);
@@ -72,6 +75,7 @@ const MESSAGES: u64 = START + 0x2000;
 const FIRST: u64 = START + 0x3000;
 const SECOND: u64 = START + 0x4000;
 const PROCESSES: u64 = START + 0x8000;
+const GIGA: u64 = 1 << 30;
 const P5_ENTRY: u64 = 0x0A00_0407;
 const P6_ENTRY: [u64; 2] = [0x1000_0483, 0x1000_0000_0A00_0005];
 
@@ -419,9 +423,8 @@ fn untranslated(checks: &mut Checks) {
 /// 2^38 - 1 is legal for Sv39 and 2^38 isn't.
 fn first_stage_limits(checks: &mut Checks) {
     let mut layout = bench([1, 0, 0, root_of(8, FIRST), 0, 0, 0, 0]);
-    let giga = 1u64 << 30;
     for index in [255, 256, 511] {
-        layout.put(FIRST + index * 8, leaf(index * giga, ALL_FLAGS));
+        layout.put(FIRST + index * 8, leaf(index * GIGA, ALL_FLAGS));
     }
     let mut ask = |name: &str, address: u64, expected: Answer| {
         let mut asked = plain(Access::Read, address);
@@ -434,19 +437,19 @@ fn first_stage_limits(checks: &mut Checks) {
     ask(
         "Sv39 at 2^38 - 1",
         low - 1,
-        Answer::Translated(256 * giga - 1),
+        Answer::Translated(256 * GIGA - 1),
     );
     ask("Sv39 at 2^38", low, page_fault);
     ask("Sv39 at 2^64 - 2^38 - 1", u64::MAX - low, page_fault);
     ask(
         "Sv39 at 2^64 - 2^38",
         u64::MAX - low + 1,
-        Answer::Translated(256 * giga),
+        Answer::Translated(256 * GIGA),
     );
     ask(
         "Sv39 at 2^64 - 1",
         u64::MAX,
-        Answer::Translated(512 * giga - 1),
+        Answer::Translated(512 * GIGA - 1),
     );
     ask("Sv39 at 2^39 + 2^38", low * 3, page_fault);
     ask("Sv39 at 2^63", 1 << 63, page_fault);
@@ -459,9 +462,8 @@ fn first_stage_limits(checks: &mut Checks) {
 /// Guest 2^41 - 1 may pass and 2^41 is a guest page fault; the root index has eleven bits.
 fn second_stage_limits(checks: &mut Checks) {
     let mut layout = bench([1, root_of(8, SECOND), 0, 0, 0, 0, 0, 0]);
-    let giga = 1u64 << 30;
-    layout.put(SECOND + 2_047 * 8, leaf(7 * giga, ALL_FLAGS));
-    layout.put(SECOND + 512 * 8, leaf(9 * giga, ALL_FLAGS));
+    layout.put(SECOND + 2_047 * 8, leaf(7 * GIGA, ALL_FLAGS));
+    layout.put(SECOND + 512 * 8, leaf(9 * GIGA, ALL_FLAGS));
     let mut ask = |name: &str, address: u64, expected: Answer| {
         let mut asked = plain(Access::Read, address);
         asked.length = 1;
@@ -470,13 +472,13 @@ fn second_stage_limits(checks: &mut Checks) {
     };
     let top = 1u64 << 41;
     let guest_fault = fault(21, Stage::Second);
-    ask("guest 2^41 - 1", top - 1, Answer::Translated(8 * giga - 1));
+    ask("guest 2^41 - 1", top - 1, Answer::Translated(8 * GIGA - 1));
     ask("guest 2^41", top, guest_fault);
     ask("guest 2^64 - 1", u64::MAX, guest_fault);
     ask(
         "guest 2^39: root index 512",
         1 << 39,
-        Answer::Translated(9 * giga),
+        Answer::Translated(9 * GIGA),
     );
     ask("guest 0: root index 0", 0, guest_fault);
     let found = run(&mut layout, &plain(Access::Write, top), 0);
@@ -571,6 +573,94 @@ fn process_rules(checks: &mut Checks) {
     let found = run(&mut layout, &asked, 0);
     let name = "process context not valid, read through a page without W and D";
     checks.answer(name, found, fault(266, Stage::ProcessDirectory));
+}
+
+/// Device 0 with a PD8 directory; process 0 has ENS, this SUM, and a first stage that maps its first
+/// GiB to the sixth by one leaf with this U.
+fn process_bench(sum: bool, user: bool) -> Layout {
+    let mut layout = bench([0x21, 0, 0, root_of(1, PROCESSES), 0, 0, 0, 0]);
+    layout.put(PROCESSES, 3 | u64::from(sum) << 2);
+    layout.put(PROCESSES + 8, root_of(8, FIRST));
+    layout.put(FIRST, leaf(5 * GIGA, 0xCF | u64::from(user) << 4));
+    layout
+}
+
+/// A request of process 0.
+fn of_process(supervisor: bool, access: Access) -> Request {
+    let mut asked = plain(access, 0x1238);
+    asked.process_id = Some(0);
+    asked.supervisor = supervisor;
+    asked
+}
+
+/// The rule of U under a process context (003, Process-context, translation attributes; 02, Req 02):
+/// supervisor, SUM, U, then the cause of a read, a write and a read-for-execute, 0 for none.
+fn user_rule(checks: &mut Checks) {
+    let rows = [
+        (true, false, false, [0, 0, 0]),
+        (true, false, true, [13, 15, 12]),
+        (true, true, false, [0, 0, 0]),
+        (true, true, true, [0, 0, 12]),
+        (false, false, false, [13, 15, 12]),
+        (false, false, true, [0, 0, 0]),
+        (false, true, false, [13, 15, 12]),
+        (false, true, true, [0, 0, 0]),
+    ];
+    for (supervisor, sum, user, causes) in rows {
+        for (access, cause) in Access::ALL.into_iter().zip(causes) {
+            let asked = of_process(supervisor, access);
+            let found = run(&mut process_bench(sum, user), &asked, 0);
+            let expected = match cause {
+                0 => Answer::Translated(0x1_4000_1238),
+                _ => fault(cause, Stage::First),
+            };
+            let privilege = if supervisor { "supervisor" } else { "user" };
+            let (sum, user) = (u8::from(sum), u8::from(user));
+            let name = format!("{privilege}, SUM = {sum}, U = {user}, {}", access.name());
+            checks.answer(&name, found, expected);
+        }
+    }
+}
+
+/// SUM opens a page with U = 1 to a supervisor, and stands for no other bit of its leaf.
+fn user_rule_alone(checks: &mut Checks) {
+    let rows = [
+        ("X without R", 0xD9, Access::Read, 13),
+        ("A = 0", 0x9F, Access::Read, 13),
+        ("no W", 0xDB, Access::Write, 15),
+        ("D = 0", 0x5F, Access::Write, 15),
+    ];
+    for (name, flags, access, cause) in rows {
+        let mut layout = process_bench(true, true);
+        layout.put(FIRST, leaf(5 * GIGA, flags));
+        let found = run(&mut layout, &of_process(true, access), 0);
+        let name = format!("supervisor, SUM = 1, U = 1, {name}, {}", access.name());
+        checks.answer(&name, found, fault(cause, Stage::First));
+    }
+}
+
+/// The second stage under a supervisor with SUM = 1 on a page with U = 1: it needs U = 1 itself, for
+/// the final address and for the first stage's entry. The guest's second GiB is the window's, which
+/// holds the process directory; the first stage's table is found through the fourth.
+fn user_rule_below(checks: &mut Checks) {
+    let passed = Answer::Translated(0x1_C000_1238);
+    let guest_fault = fault(21, Stage::Second);
+    let rows = [
+        ("all with U = 1", 0xDF, 0xDF, passed),
+        ("final address, U = 0", 0xDF, 0xCF, guest_fault),
+        ("first-stage entry, U = 0", 0xCF, 0xDF, guest_fault),
+    ];
+    for (name, table, data, expected) in rows {
+        let mut layout = process_bench(true, true);
+        layout.put(START + 8, root_of(8, SECOND));
+        layout.put(PROCESSES + 8, root_of(8, 3 * GIGA + (FIRST - START)));
+        layout.put(SECOND + 8, leaf(START, ALL_FLAGS));
+        layout.put(SECOND + 3 * 8, leaf(START, table));
+        layout.put(SECOND + 5 * 8, leaf(7 * GIGA, data));
+        let found = run(&mut layout, &of_process(true, Access::Read), 0);
+        let name = format!("supervisor, SUM = 1, both stages, {name}");
+        checks.answer(&name, found, expected);
+    }
 }
 
 /// Both stages: a first stage of 4 KiB pages whose tables lie at guest addresses. Guest pages 1, 2

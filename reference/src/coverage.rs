@@ -122,6 +122,11 @@ impl Coverage {
             .collect()
     }
 
+    /// Nothing failed, nothing is left at zero, and nothing arose that isn't in the table.
+    pub fn holds(&self) -> bool {
+        self.failures.is_empty() && self.at_zero().is_empty() && self.unexpected().is_empty()
+    }
+
     /// Prints the whole table.
     pub fn print(&self) {
         let mut group = "";
@@ -197,6 +202,7 @@ fn check_change(
 #[cfg(test)]
 mod tests {
     use super::Coverage;
+    use crate::mark::Mark;
 
     #[test]
     fn generated_lists_keep_the_ledger() {
@@ -204,5 +210,26 @@ mod tests {
         assert!(coverage.failures.is_empty(), "{:?}", coverage.failures);
         assert!(coverage.unexpected().is_empty());
         assert_eq!(coverage.calls, 20_000);
+    }
+
+    /// A page that the rule of U opens where it must bar, or the other way round, fails the run.
+    #[test]
+    fn a_wrong_word_is_unexpected() {
+        let whole = Coverage {
+            marks: Mark::all().into_iter().map(|mark| (mark, 1)).collect(),
+            ..Coverage::default()
+        };
+        assert!(whole.holds());
+        for mark in Mark::all() {
+            let Mark::User(walk, mut look) = mark else {
+                continue;
+            };
+            look.open = !look.open;
+            let wrong = Mark::User(walk, look);
+            let mut coverage = whole.clone();
+            coverage.marks.insert(wrong, 1);
+            assert_eq!(coverage.unexpected(), [wrong]);
+            assert!(!coverage.holds());
+        }
     }
 }

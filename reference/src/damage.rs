@@ -116,20 +116,21 @@ fn context_damage(world: &mut World, address: u64) {
 
 /// One of the two doublewords of a process context.
 fn process_damage(world: &mut World, address: u64) {
-    let kind = world.random.below(10);
-    let place = address + 8 * u64::from(kind >= 5);
+    let kind = world.random.below(11);
+    let place = address + 8 * u64::from(kind >= 6);
     let random = &mut world.random;
     let value = world.layout.get(place);
     let damaged = match kind {
         0 => value & !1,
         1 => value & !2,
-        2 => value | one_bit(random, 3, 11),
-        3 => value | one_bit(random, 32, 63),
-        4 => value ^ one_bit(random, 0, 63),
-        5 => value | one_bit(random, 44, 59),
-        6 => with_field(value, 60, 4, random.below(16)),
-        7 => value | one_bit(random, 29, 43),
-        8 => with_field(value, 0, 44, random.of_width(44)),
+        2 => value ^ 4,
+        3 => value | one_bit(random, 3, 11),
+        4 => value | one_bit(random, 32, 63),
+        5 => value ^ one_bit(random, 0, 63),
+        6 => value | one_bit(random, 44, 59),
+        7 => with_field(value, 60, 4, random.below(16)),
+        8 => value | one_bit(random, 29, 43),
+        9 => with_field(value, 0, 44, random.of_width(44)),
         _ => value ^ one_bit(random, 0, 63),
     };
     world.layout.put(place, damaged);

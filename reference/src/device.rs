@@ -1,7 +1,7 @@
 //! Device directory and device context (003, Device-Directory-Table; 01, Directories).
 
 use crate::mark::Point;
-use crate::paging::{Root, SV39, SV39X4};
+use crate::paging::{FirstStage, Root, SV39, SV39X4};
 use crate::task::{first_broken, Task};
 use crate::types::{bit, bits, page_address, Settings, Stage, Step};
 
@@ -61,15 +61,17 @@ pub fn mode(pointer: u64) -> u64 {
     bits(pointer, 63, 60)
 }
 
-/// The first stage that an fsc with an iosatp names; none where it is Bare.
-pub fn first_stage(fsc: u64) -> Option<Root> {
+/// The first stage that an fsc with an iosatp names, under a process context's SUM; none where it is
+/// Bare.
+pub fn first_stage(fsc: u64, sum: Option<bool>) -> Option<FirstStage> {
     if mode(fsc) == 0 {
         return None;
     }
-    Some(Root {
+    let root = Root {
         scheme: &SV39,
         table: page_address(page_number(fsc)),
-    })
+    };
+    Some(FirstStage { root, sum })
 }
 
 /// 003, Process to translate an IOVA, step 4: DDI[0], DDI[1], DDI[2].

@@ -5,7 +5,7 @@ use crate::file::{self, FILE_SIZE};
 use crate::mark::{Mark, Point, See, Walk};
 use crate::memory::Window;
 use crate::message::{self, MessageEntry};
-use crate::paging::{self, Root};
+use crate::paging::{self, FirstStage, Page, Root};
 use crate::process;
 use crate::task::{first_broken, Task};
 use crate::types::{Answer, Pair, Report, Request, Settings, Stage, Step};
@@ -127,11 +127,11 @@ fn translate(task: &mut Task, settings: &Settings, data: u32) -> Step<End> {
 }
 
 /// 003, Process to translate an IOVA, steps 10 to 16: the first stage, none where it is Bare.
-fn first_stage(task: &mut Task, context: &DeviceContext) -> Step<Option<Root>> {
+fn first_stage(task: &mut Task, context: &DeviceContext) -> Step<Option<FirstStage>> {
     // Step 10.
     if !context.pdtv() {
         task.note(Point::FirstFromDevice);
-        return Ok(device::first_stage(context.fsc));
+        return Ok(device::first_stage(context.fsc, None));
     }
     let process_id = match task.request.process_id {
         Some(process_id) => process_id,
@@ -164,7 +164,7 @@ fn first_stage(task: &mut Task, context: &DeviceContext) -> Step<Option<Root>> {
     }
     // Step 16.
     task.note(Point::FirstFromProcess);
-    Ok(device::first_stage(process.fsc))
+    Ok(device::first_stage(process.fsc, Some(process.sum())))
 }
 
 /// Tells the observer of a Bare process directory: no width, no ENS (D5).
@@ -182,62 +182,69 @@ fn note_bare_process_directory(task: &mut Task, process_id: u64) {
 fn translate_stages(
     task: &mut Task,
     context: &DeviceContext,
-    first: Option<Root>,
+    first: Option<FirstStage>,
     data: u32,
 ) -> Step<End> {
     let second = context.second_stage();
+    let address = task.request.address;
     if first.is_none() && second.is_none() {
         // D4: no stage translates.
         paging::check_untranslated(task, Point::UntranslatedTooHigh)?;
         task.note(Point::PassedBare);
-        return Ok(End::Answer(Answer::Translated(task.request.address)));
+        return Ok(End::Answer(Answer::Translated(address)));
     }
     // Step 17.
-    let mut guest = task.request.address;
-    let mut first_level = None;
-    if let Some(root) = &first {
-        let page = paging::walk(task, root, second.as_ref(), Walk::First, guest)?;
-        guest = page.address;
-        first_level = Some(page.level);
-    }
+    let page = match &first {
+        Some(first) => Some(paging::walk_first(task, first, second.as_ref(), address)?),
+        None => None,
+    };
+    let guest = page.map_or(address, |page| page.address);
     // Step 18.
-    if context.messages_on() && is_message(task, context, guest, first.is_some()) {
+    if context.messages_on() && is_message(task, context, guest, page) {
         return message_end(task, context, guest, data);
     }
     // Step 19.
-    match &second {
-        Some(root) => translate_guest(task, context, root, guest, first_level),
-        None => {
-            task.note(Point::PassedFirst);
-            Ok(End::Answer(Answer::Translated(guest)))
-        }
+    let Some(root) = &second else {
+        task.note(Point::PassedFirst);
+        note_by_sum(task, page, Point::PassedFirstBySum);
+        return Ok(End::Answer(Answer::Translated(guest)));
+    };
+    if !context.messages_on() {
+        task.note(Point::MessageOff);
     }
+    let sum = first.and_then(|first| first.sum);
+    translate_guest(task, root, sum, guest, page)
 }
 
 /// 003, Process to translate an IOVA, steps 19 and 20, where the second stage is on.
 fn translate_guest(
     task: &mut Task,
-    context: &DeviceContext,
     root: &Root,
+    sum: Option<bool>,
     guest: u64,
-    first_level: Option<u64>,
+    first: Option<Page>,
 ) -> Step<End> {
-    if !context.messages_on() {
-        task.note(Point::MessageOff);
-    }
-    let page = paging::walk(task, root, None, Walk::SecondFinal, guest)?;
-    match first_level {
-        Some(level) => {
+    let page = paging::walk_second(task, root, Walk::SecondFinal, sum, guest)?;
+    match first {
+        Some(first) => {
             task.note(Point::PassedBoth);
-            (task.see)(Mark::Sizes(level, page.level));
+            (task.see)(Mark::Sizes(first.level, page.level));
         }
         None => task.note(Point::PassedSecond),
     }
+    note_by_sum(task, first, Point::PassedBothBySum);
     Ok(End::Answer(Answer::Translated(page.address)))
 }
 
+/// Tells the observer of a supervisor request whose first-stage page has U = 1.
+fn note_by_sum(task: &mut Task, first: Option<Page>, point: Point) {
+    if task.request.supervisor && first.is_some_and(|page| page.user) {
+        task.note(point);
+    }
+}
+
 /// 003, Process to translate addresses of MSIs, steps 3 and 4.
-fn is_message(task: &mut Task, context: &DeviceContext, guest: u64, after_first: bool) -> bool {
+fn is_message(task: &mut Task, context: &DeviceContext, guest: u64, first: Option<Page>) -> bool {
     if !message::recognised(guest, context.mask, context.pattern) {
         task.note(match guest >> 41 {
             0 => Point::NotRecognised,
@@ -245,10 +252,11 @@ fn is_message(task: &mut Task, context: &DeviceContext, guest: u64, after_first:
         });
         return false;
     }
-    task.note(match after_first {
-        true => Point::RecognisedAfterFirst,
-        false => Point::Recognised,
+    task.note(match first {
+        Some(_) => Point::RecognisedAfterFirst,
+        None => Point::Recognised,
     });
+    note_by_sum(task, first, Point::RecognisedBySum);
     task.note(match context.mask.count_ones() {
         0 => Point::MaskZero,
         1..=8 => Point::MaskSmall,

@@ -1,8 +1,8 @@
 //! An independent reference for the Yasmurekh IOMMU, written from the documents alone.
 //!
-//! "01" is the scope paper, "003" the IOMMU data structures, "000" the IOMMU chapter of the
-//! Advanced Interrupt Architecture, "Priv" the RISC-V Privileged specification; D1, D2, .. are
-//! the entries of docs/DECISIONS.md.
+//! "01" is the scope paper, "02" the paper of change requests, "003" the IOMMU data structures,
+//! "000" the IOMMU chapter of the Advanced Interrupt Architecture, "Priv" the RISC-V Privileged
+//! specification; D1, D2, .. are the entries of docs/DECISIONS.md.
 
 #![forbid(unsafe_code)]
 

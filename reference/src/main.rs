@@ -82,8 +82,7 @@ fn run_coverage(options: &[String]) -> Result<bool, String> {
     for failure in &coverage.failures {
         println!("failed: {failure}");
     }
-    let unexpected = coverage.unexpected();
-    for mark in &unexpected {
+    for mark in coverage.unexpected() {
         println!("not in the table: {}: {}", mark.group(), mark.name());
     }
     println!(
@@ -99,7 +98,7 @@ fn run_coverage(options: &[String]) -> Result<bool, String> {
     if zero.is_empty() {
         println!("nothing left at zero");
     }
-    Ok(zero.is_empty() && unexpected.is_empty() && coverage.failures.is_empty())
+    Ok(coverage.holds())
 }
 
 fn print_lists(options: &[String]) -> Result<bool, String> {

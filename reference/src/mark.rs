@@ -44,7 +44,8 @@ named!(
         MisalignedLevel1 = "misaligned 2 MiB page",
         MisalignedLevel2 = "misaligned 1 GiB page",
         UserNeedsUser = "user request, U = 0",
-        SupervisorBarred = "supervisor request, U = 1",
+        SupervisorWithoutSum = "supervisor request, U = 1, SUM = 0",
+        SupervisorExecutes = "supervisor reads for execute, U = 1, SUM = 1",
         SecondNeedsUser = "second stage, U = 0",
         NoRead = "no R",
         NoWrite = "no W",
@@ -152,6 +153,7 @@ named!(
         NotRecognisedHigh = "msiptp on, address of 2^41 or more",
         Recognised = "recognised, first stage Bare",
         RecognisedAfterFirst = "recognised after the first stage",
+        RecognisedBySum = "recognised after the first stage, by SUM",
         MaskZero = "recognised, mask without ones",
         MaskSmall = "recognised, 1 to 8 ones in the mask",
         MaskLarge = "recognised, more than 8 ones in the mask",
@@ -193,10 +195,43 @@ named!(
         ReportMade = "report made",
         PassedBare = "translated, both stages Bare",
         PassedFirst = "translated, first stage only",
+        PassedFirstBySum = "translated, first stage only, by SUM",
         PassedSecond = "translated, second stage only",
         PassedBoth = "translated, both stages",
+        PassedBothBySum = "translated, both stages, by SUM",
     }
 );
+
+/// One look at the U bit of a leaf: what the rule of U goes by, and whether the page is open by it.
+#[derive(Clone, Copy, Debug, PartialEq, Eq, PartialOrd, Ord)]
+pub struct UserBit {
+    pub supervisor: bool,
+    /// SUM of the process context; a device context has none.
+    pub sum: Option<bool>,
+    /// U of the leaf.
+    pub user: bool,
+    /// The original access.
+    pub access: Access,
+    pub open: bool,
+}
+
+impl UserBit {
+    fn name(self) -> String {
+        let privilege = if self.supervisor {
+            "supervisor"
+        } else {
+            "user"
+        };
+        let sum = match self.sum {
+            Some(sum) => format!(", SUM = {}", u8::from(sum)),
+            None => String::new(),
+        };
+        let user = u8::from(self.user);
+        let access = self.access.name();
+        let word = if self.open { "open" } else { "barred" };
+        format!("{privilege}{sum}, U = {user}, {access}: {word}")
+    }
+}
 
 /// One mark of coverage.
 #[derive(Clone, Copy, Debug, PartialEq, Eq, PartialOrd, Ord)]
@@ -205,6 +240,9 @@ pub enum Mark {
     Point(Point),
     /// A walk's reason for its fault.
     Entry(Walk, EntryFault),
+    /// A walk's look at the U bit of a leaf: all of the first stage; of the second stage those for
+    /// a supervisor under SUM = 1.
+    User(Walk, UserBit),
     /// A walk's page fault under an original access.
     PageFault(Walk, Access),
     /// A walk's access violation under an original access.
@@ -229,14 +267,44 @@ pub const CAUSES: [(Stage, &[u64]); 5] = [
     (Stage::MessageTable, &[1, 261, 262, 263]),
 ];
 
+const OPEN: [bool; 3] = [true; 3];
+const BARRED: [bool; 3] = [false; 3];
+
+/// Walk, supervisor, SUM, U, and whether the page is then open to a read, a write and a
+/// read-for-execute.
+type UserRow = (Walk, bool, Option<bool>, bool, [bool; 3]);
+
+/// The rule of U (01, The two walks; 003, Process-context, translation attributes; 02, Req 02).
+const USER_RULE: [UserRow; 14] = [
+    (Walk::First, true, Some(false), false, OPEN),
+    (Walk::First, true, Some(false), true, BARRED),
+    (Walk::First, true, Some(true), false, OPEN),
+    (Walk::First, true, Some(true), true, [true, true, false]),
+    (Walk::First, false, Some(false), false, BARRED),
+    (Walk::First, false, Some(false), true, OPEN),
+    (Walk::First, false, Some(true), false, BARRED),
+    (Walk::First, false, Some(true), true, OPEN),
+    // Only user requests come to a device context's own first stage.
+    (Walk::First, false, None, false, BARRED),
+    (Walk::First, false, None, true, OPEN),
+    // The second stage under SUM = 1.
+    (Walk::SecondFinal, true, Some(true), false, BARRED),
+    (Walk::SecondFinal, true, Some(true), true, OPEN),
+    (Walk::SecondForFirst, true, Some(true), false, BARRED),
+    (Walk::SecondForFirst, true, Some(true), true, OPEN),
+];
+
 const SIZES: [&str; 3] = ["4 KiB", "2 MiB", "1 GiB"];
 
 /// Whether a walk can end by this reason.
 pub fn can_arise(walk: Walk, reason: EntryFault) -> bool {
     let first = walk == Walk::First;
     match reason {
-        // Sv39's rule, and the two rules of U, are the first stage's.
-        EntryFault::Sign | EntryFault::UserNeedsUser | EntryFault::SupervisorBarred => first,
+        // Sv39's rule, and the rules of U by privilege and SUM, are the first stage's.
+        EntryFault::Sign
+        | EntryFault::UserNeedsUser
+        | EntryFault::SupervisorWithoutSum
+        | EntryFault::SupervisorExecutes => first,
         // Sv39x4's limit and its U rule are the second stage's.
         EntryFault::Limit | EntryFault::SecondNeedsUser => !first,
         // An implicit access is a read (D7).
@@ -245,6 +313,24 @@ pub fn can_arise(walk: Walk, reason: EntryFault) -> bool {
         }
         _ => true,
     }
+}
+
+/// The marks of the rule of U, each with the word that it must have.
+fn user_marks() -> Vec<Mark> {
+    let mut marks = Vec::new();
+    for (walk, supervisor, sum, user, opens) in USER_RULE {
+        for (access, open) in Access::ALL.into_iter().zip(opens) {
+            let look = UserBit {
+                supervisor,
+                sum,
+                user,
+                access,
+                open,
+            };
+            marks.push(Mark::User(walk, look));
+        }
+    }
+    marks
 }
 
 impl Mark {
@@ -258,6 +344,7 @@ impl Mark {
                 }
             }
         }
+        marks.append(&mut user_marks());
         for &walk in Walk::ALL {
             marks.extend(Access::ALL.map(|access| Mark::PageFault(walk, access)));
             marks.extend(Access::ALL.map(|access| Mark::Violation(walk, access)));
@@ -279,6 +366,11 @@ impl Mark {
         match self {
             Mark::Point(_) => "checks and outcomes",
             Mark::Entry(walk, _) => walk.name(),
+            Mark::User(Walk::First, look) => match look.sum {
+                Some(_) => "rule of U, first stage of a process context",
+                None => "rule of U, first stage of a device context",
+            },
+            Mark::User(..) => "rule of U, second stage under SUM = 1",
             Mark::PageFault(..) | Mark::Violation(..) => "walk faults by original access",
             Mark::Size(..) => "page sizes reached",
             Mark::Sizes(..) => "page sizes, first stage and second stage",
@@ -291,6 +383,8 @@ impl Mark {
         match self {
             Mark::Point(point) => point.name().to_string(),
             Mark::Entry(_, reason) => reason.name().to_string(),
+            Mark::User(Walk::First, look) => look.name(),
+            Mark::User(walk, look) => format!("{}: {}", walk.name(), look.name()),
             Mark::PageFault(walk, access) => {
                 format!("{}: page fault, {}", walk.name(), access.name())
             }

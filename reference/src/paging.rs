@@ -1,9 +1,9 @@
 //! The page-table walk of both stages (Priv, address-translation process; 01, The two walks).
 
-use crate::mark::{EntryFault, Mark, Point, Walk};
+use crate::mark::{EntryFault, Mark, Point, UserBit, Walk};
 use crate::task::Task;
 use crate::types::{access_fault, bit, bits, fault, guest_page_fault, page_address, page_fault};
-use crate::types::{Access, Answer, Stage, Step};
+use crate::types::{Access, Answer, Request, Stage, Step};
 
 /// A page-table scheme: its level count, index widths and address width.
 #[derive(Debug, PartialEq, Eq)]
@@ -66,11 +66,32 @@ pub struct Root {
     pub table: u64,
 }
 
+/// The first stage's page-table information (003, Process to translate an IOVA, steps 10 and 16).
+#[derive(Clone, Copy, Debug, PartialEq, Eq)]
+pub struct FirstStage {
+    pub root: Root,
+    /// SUM of the process context; a device context has none.
+    pub sum: Option<bool>,
+}
+
 /// What a walk finds.
 #[derive(Clone, Copy, Debug, PartialEq, Eq)]
 pub struct Page {
     pub address: u64,
     pub level: u64,
+    /// U of the leaf.
+    pub user: bool,
+}
+
+/// One walk: which of the four it is, and what it goes by.
+struct Walker<'a> {
+    walk: Walk,
+    root: &'a Root,
+    /// The second stage under a first-stage walk; the entries of that walk then lie at guest
+    /// addresses.
+    second: Option<&'a Root>,
+    /// SUM of the request's process context; the second stage has it for its marks alone.
+    sum: Option<bool>,
 }
 
 /// What a walk needs of a page: an implicit access is a read (D7).
@@ -81,55 +102,82 @@ fn needed(walk: Walk, original: Access) -> Access {
     }
 }
 
-/// Priv, the address-translation process, over one scheme. `second` is the second stage under a
-/// first-stage walk; the entries of that walk then lie at guest addresses.
-pub fn walk(
+/// 003, Process to translate an IOVA, step 17: the walk of the first stage.
+pub fn walk_first(
     task: &mut Task,
-    root: &Root,
+    first: &FirstStage,
     second: Option<&Root>,
-    walk: Walk,
     address: u64,
 ) -> Step<Page> {
-    let scheme = root.scheme;
+    let walker = Walker {
+        walk: Walk::First,
+        root: &first.root,
+        second,
+        sum: first.sum,
+    };
+    walk(task, &walker, address)
+}
+
+/// 003, Process to translate an IOVA, step 19, and the implicit accesses: a walk of the second
+/// stage.
+pub fn walk_second(
+    task: &mut Task,
+    root: &Root,
+    kind: Walk,
+    sum: Option<bool>,
+    address: u64,
+) -> Step<Page> {
+    let walker = Walker {
+        walk: kind,
+        root,
+        second: None,
+        sum,
+    };
+    walk(task, &walker, address)
+}
+
+/// Priv, the address-translation process, over one scheme.
+fn walk(task: &mut Task, walker: &Walker, address: u64) -> Step<Page> {
+    let scheme = walker.root.scheme;
     if !scheme.covers(address) {
         let rule = if scheme.signed {
             EntryFault::Sign
         } else {
             EntryFault::Limit
         };
-        return Err(page_fault_of(task, walk, rule));
+        return Err(page_fault_of(task, walker.walk, rule));
     }
     // Step 1.
-    let mut a = root.table;
+    let mut a = walker.root.table;
     let mut level = scheme.levels;
     while level > 0 {
         level -= 1;
         // Step 2.
-        let entry = load_entry(task, second, walk, a + scheme.index(address, level) * 8)?;
+        let entry = load_entry(task, walker, a + scheme.index(address, level) * 8)?;
         // Step 3.
-        check_entry(task, walk, entry)?;
+        check_entry(task, walker.walk, entry)?;
         // Step 4: with R or X it is a leaf.
         if bit(entry, 1) || bit(entry, 3) {
-            check_leaf(task, walk, entry, scheme, level)?;
-            (task.see)(Mark::Size(walk, level));
+            check_leaf(task, walker, entry, level)?;
+            (task.see)(Mark::Size(walker.walk, level));
             return Ok(page(scheme, level, entry, address));
         }
-        check_non_leaf(task, walk, entry)?;
+        check_non_leaf(task, walker.walk, entry)?;
         a = page_address(bits(entry, 53, 10));
     }
     // Step 4: a pointer at the last level.
-    Err(page_fault_of(task, walk, EntryFault::NonLeafAtLast))
+    Err(page_fault_of(task, walker.walk, EntryFault::NonLeafAtLast))
 }
 
 /// Step 2: the load of one entry; under the second stage its address is translated first.
-fn load_entry(task: &mut Task, second: Option<&Root>, kind: Walk, address: u64) -> Step<u64> {
-    let place = match second {
-        Some(root) => walk(task, root, None, Walk::SecondForFirst, address)?.address,
+fn load_entry(task: &mut Task, walker: &Walker, address: u64) -> Step<u64> {
+    let place = match walker.second {
+        Some(root) => walk_second(task, root, Walk::SecondForFirst, walker.sum, address)?.address,
         None => address,
     };
     match task.window.load(place) {
         Some(entry) => Ok(entry),
-        None => Err(violation_of(task, kind)),
+        None => Err(violation_of(task, walker.walk)),
     }
 }
 
@@ -157,24 +205,65 @@ fn check_non_leaf(task: &mut Task, walk: Walk, entry: u64) -> Step<()> {
 }
 
 /// Steps 5 to 7: alignment of a large page, U, permission, A and D.
-fn check_leaf(task: &mut Task, walk: Walk, entry: u64, scheme: &Scheme, level: u64) -> Step<()> {
-    let low = bits(entry, 53, 10) % (1 << (page_bits(scheme, level) - 12));
+fn check_leaf(task: &mut Task, walker: &Walker, entry: u64, level: u64) -> Step<()> {
+    let low = bits(entry, 53, 10) % (1 << (page_bits(walker.root.scheme, level) - 12));
     let misaligned = if level == 1 {
         EntryFault::MisalignedLevel1
     } else {
         EntryFault::MisalignedLevel2
     };
-    let first = walk == Walk::First;
-    let supervisor = task.request.supervisor;
-    let user = bit(entry, 4);
+    end_if_any(task, walker.walk, &[(low != 0, misaligned)])?;
+    check_user(task, walker, bit(entry, 4))?;
+    check_permissions(task, walker.walk, entry)
+}
+
+/// The rule of U at a leaf; the observer is told of what it goes by and what it says.
+fn check_user(task: &mut Task, walker: &Walker, user: bool) -> Step<()> {
+    let request = task.request;
+    let reason = barred(walker, &request, user);
+    // The second stage's looks that SUM would change, were it not the first stage's alone.
+    let despite_sum = request.supervisor && walker.sum == Some(true);
+    if walker.walk == Walk::First || despite_sum {
+        let look = UserBit {
+            supervisor: request.supervisor,
+            sum: walker.sum,
+            user,
+            access: request.access,
+            open: reason.is_none(),
+        };
+        (task.see)(Mark::User(walker.walk, look));
+    }
+    match reason {
+        Some(reason) => Err(page_fault_of(task, walker.walk, reason)),
+        None => Ok(()),
+    }
+}
+
+/// Why U bars a page, if it does.
+fn barred(walker: &Walker, request: &Request, user: bool) -> Option<EntryFault> {
+    // 003, Process to translate an IOVA, after step 20: the second stage treats every request as
+    // not supervisor, so SUM doesn't matter there.
+    if walker.walk != Walk::First {
+        return (!user).then_some(EntryFault::SecondNeedsUser);
+    }
+    // 01, The two walks: a user request needs U = 1.
+    if !request.supervisor {
+        return (!user).then_some(EntryFault::UserNeedsUser);
+    }
+    // 003, Process-context, translation attributes; 02, Req 02: a page with U = 1 is barred where
+    // SUM is 0, and to read-for-execute whatever SUM is.
+    if user && walker.sum != Some(true) {
+        return Some(EntryFault::SupervisorWithoutSum);
+    }
+    let execute = request.access == Access::ReadForExecute;
+    (user && execute).then_some(EntryFault::SupervisorExecutes)
+}
+
+/// R, W or X by the access, then A and D.
+fn check_permissions(task: &mut Task, walk: Walk, entry: u64) -> Step<()> {
     let need = needed(walk, task.request.access);
     let (read, write, execute) = (bit(entry, 1), bit(entry, 2), bit(entry, 3));
     let reasons = [
-        (low != 0, misaligned),
-        // 01, The two walks: the rules of U.
-        (first && !supervisor && !user, EntryFault::UserNeedsUser),
-        (first && supervisor && user, EntryFault::SupervisorBarred),
-        (!first && !user, EntryFault::SecondNeedsUser),
         (need == Access::Read && !read, EntryFault::NoRead),
         (need == Access::Write && !write, EntryFault::NoWrite),
         (
@@ -196,6 +285,7 @@ fn page(scheme: &Scheme, level: u64, entry: u64, address: u64) -> Page {
     Page {
         address: page_address(bits(entry, 53, 10)) | offset,
         level,
+        user: bit(entry, 4),
     }
 }
 

@@ -18,6 +18,12 @@ impl ProcessContext {
     pub fn ens(&self) -> bool {
         bit(self.ta, 1)
     }
+
+    /// ta bit 2: supervisor requests may read and write pages with U = 1 (003, Process-context,
+    /// translation attributes; 02, Req 02).
+    pub fn sum(&self) -> bool {
+        bit(self.ta, 2)
+    }
 }
 
 /// 01, Directories: PDI[0], PDI[1], PDI[2].
@@ -79,7 +85,7 @@ fn translate(task: &mut Task, context: &DeviceContext, a: u64) -> Step<u64> {
         return Ok(a);
     };
     task.note(Point::ProcessGuest);
-    let page = paging::walk(task, &second, None, Walk::SecondForProcess, a)?;
+    let page = paging::walk_second(task, &second, Walk::SecondForProcess, None, a)?;
     Ok(page.address)
 }
 

@@ -195,12 +195,16 @@ impl World {
         })
     }
 
-    /// The guest address at which a page of the window is mapped for tables.
-    pub fn guest_of(&mut self, space: &Space, page: u64) -> u64 {
+    /// The guest address at which a page of the window is mapped for tables; where the leaf is for
+    /// this page alone, it has this U.
+    pub fn guest_of(&mut self, space: &Space, page: u64, user: bool) -> u64 {
         let unit = size(space.table_level);
         let low = align_down(self.layout.start, unit);
         let guest = space.table_base + (page - low);
-        let flags = self.random.pick(&[ALL_FLAGS, 0x53, 0x57, 0x5B, 0xF3]);
+        let mut flags = self.random.pick(&[ALL_FLAGS, 0x53, 0x57, 0x5B, 0xF3]);
+        if !user && space.table_level == 0 {
+            flags &= !0x10;
+        }
         let (from, to) = (align_down(guest, unit), align_down(page, unit));
         self.map(
             &SV39X4,
@@ -261,7 +265,7 @@ impl World {
     fn add_table(&mut self, space: Option<&Space>, place: u64, level: u64) -> Option<u64> {
         let page = self.page()?;
         let named = match space {
-            Some(space) => self.guest_of(space, page),
+            Some(space) => self.guest_of(space, page, true),
             None => page,
         };
         let software = self.random.pick(&[0, 0, 0, 0x20, 0x100, 0x300]);
@@ -317,18 +321,23 @@ impl World {
     /// The device's own first stage, a Bare process directory, or PD8, PD17 or PD20.
     fn choose_first_stage(&mut self, device: &DevicePlan, words: &mut [u64; 8]) {
         match self.random.below(100) {
-            0..=39 => words[3] = self.add_first_stage(device, None, false),
+            0..=39 => words[3] = self.add_first_stage(device, Owner::default()),
             40..=47 => {
                 words[0] |= 1 << 5 | self.random.below(2) << 9;
                 words[3] = self.random.of_width(44);
                 for process in [None, Some(0), Some(0x345), Some(0xF_FFFF)] {
-                    self.add_targets(device, process, process == Some(0x345), None);
+                    let owner = Owner {
+                        process,
+                        ens: process == Some(0x345),
+                        sum: false,
+                    };
+                    self.add_targets(device, owner, None);
                 }
             }
             _ => {
                 words[0] |= 1 << 5 | self.random.below(2) << 9;
                 words[3] = self.add_process_directory(device);
-                self.add_targets(device, None, false, None);
+                self.add_targets(device, Owner::default(), None);
             }
         }
     }
@@ -389,14 +398,14 @@ impl World {
                 self.add_process(device, place, process);
             }
         }
-        let named = self.table_name(device, root);
+        let named = self.table_name(device, root, true);
         root_of(levels, named)
     }
 
-    /// The address by which a device's tables name a page of the window.
-    fn table_name(&mut self, device: &DevicePlan, page: u64) -> u64 {
+    /// The address by which a device's tables name a page of the window; `user` as for `guest_of`.
+    fn table_name(&mut self, device: &DevicePlan, page: u64, user: bool) -> u64 {
         match device.space {
-            Some(space) => self.guest_of(&space, page),
+            Some(space) => self.guest_of(&space, page, user),
             None => page,
         }
     }
@@ -415,7 +424,7 @@ impl World {
             let place = table + pdi[level as usize] * 8;
             if self.layout.get(place) == 0 {
                 let page = self.page()?;
-                let named = self.table_name(device, page);
+                let named = self.table_name(device, page, true);
                 self.layout.put(place, pointer(named));
                 self.places.push(Place::ProcessPointer(place));
             }
@@ -430,54 +439,59 @@ impl World {
         if self.layout.get(place) != 0 {
             return;
         }
-        let ens = self.random.chance(60);
-        let sum = self.random.below(2);
-        let ta = 1 | u64::from(ens) << 1 | sum << 2 | self.random.of_width(20) << 12;
-        let fsc = self.add_first_stage(device, Some(process), ens);
+        let owner = Owner {
+            process: Some(process),
+            ens: self.random.chance(60),
+            sum: self.random.chance(50),
+        };
+        let allowed = u64::from(owner.ens) << 1 | u64::from(owner.sum) << 2;
+        let ta = 1 | allowed | self.random.of_width(20) << 12;
+        let fsc = self.add_first_stage(device, owner);
         self.layout.put(place, ta);
         self.layout.put(place + 8, fsc);
         self.places.push(Place::ProcessContext(place));
     }
 
     /// A first stage, Bare or Sv39, with its targets; gives iosatp.
-    fn add_first_stage(&mut self, device: &DevicePlan, process: Option<u64>, ens: bool) -> u64 {
+    fn add_first_stage(&mut self, device: &DevicePlan, owner: Owner) -> u64 {
         let root = if self.random.chance(25) {
             None
         } else {
             self.page()
         };
-        self.add_targets(device, process, ens, root);
-        match root {
-            Some(page) => root_of(8, self.table_name(device, page)),
-            None => self.random.of_width(44),
-        }
+        self.add_targets(device, owner, root);
+        let Some(page) = root else {
+            return self.random.of_width(44);
+        };
+        let user = self.second_user(owner.ens && owner.sum);
+        root_of(8, self.table_name(device, page, user))
     }
 
     /// Some targets of one address space.
-    fn add_targets(
-        &mut self,
-        device: &DevicePlan,
-        process: Option<u64>,
-        ens: bool,
-        first: Option<u64>,
-    ) {
+    fn add_targets(&mut self, device: &DevicePlan, owner: Owner, first: Option<u64>) {
         for _ in 0..self.random.between(1, 3) {
-            let supervisor = ens && self.random.chance(50);
+            let supervisor = owner.ens && self.random.chance(50);
             let message = match device.messages {
                 Some(messages) if self.random.chance(50) => Some(self.add_message_entry(&messages)),
                 _ => None,
             };
             let (guest, second_span) = match message {
                 Some((page, _)) => (page, 4_096),
-                None => self.add_second_target(device),
+                None => {
+                    let user = self.second_user(supervisor && owner.sum);
+                    self.add_second_target(device, user)
+                }
             };
             let (address, span) = match first {
-                Some(root) => self.add_first_target(device, root, guest, second_span, supervisor),
+                Some(root) => {
+                    let user = self.first_user(supervisor, owner.sum);
+                    self.add_first_target(device, root, guest, second_span, user)
+                }
                 None => (guest, second_span),
             };
             self.targets.push(Target {
                 device: device.id,
-                process,
+                process: owner.process,
                 supervisor,
                 address,
                 span,
@@ -487,7 +501,7 @@ impl World {
     }
 
     /// A guest address that the second stage maps, or a physical one where it is Bare.
-    fn add_second_target(&mut self, device: &DevicePlan) -> (u64, u64) {
+    fn add_second_target(&mut self, device: &DevicePlan, user: bool) -> (u64, u64) {
         let Some(space) = device.space else {
             let level = self.random.below(3);
             let address = align_down(self.random.of_width(56), size(level));
@@ -503,7 +517,7 @@ impl World {
             let guest = top * size(2) + middle * size(1) + low * size(0);
             let guest = align_down(guest, size(level));
             let target = align_down(self.random.of_width(56), size(level));
-            let entry = leaf(target, self.leaf_flags(true));
+            let entry = leaf(target, self.leaf_flags(user));
             found = (guest, size(level));
             if self.map(&SV39X4, space.root, None, guest, level, entry) {
                 break;
@@ -519,7 +533,7 @@ impl World {
         root: u64,
         guest: u64,
         second_span: u64,
-        supervisor: bool,
+        user: bool,
     ) -> (u64, u64) {
         let mut found = (0, 4_096);
         for _ in 0..3 {
@@ -532,7 +546,7 @@ impl World {
             let low = self.random.pick(&[0, 7, 511]);
             let base = align_down(top * size(2) + middle * size(1) + low * size(0), own);
             let high = if top >= 256 { u64::MAX << 39 } else { 0 };
-            let flags = self.leaf_flags(!supervisor);
+            let flags = self.leaf_flags(user);
             let entry = leaf(align_down(guest, own), flags);
             found = ((base + guest % own) | high, own.min(second_span));
             if self.map(&SV39, root, device.space.as_ref(), base, level, entry) {
@@ -540,6 +554,20 @@ impl World {
             }
         }
         found
+    }
+
+    /// U of a second-stage leaf: 1, at times 0, more often where SUM might seem to help.
+    fn second_user(&mut self, sum: bool) -> bool {
+        self.random.chance(if sum { 85 } else { 98 })
+    }
+
+    /// U of a first-stage leaf: mostly a page that the request may use, at times the other one.
+    fn first_user(&mut self, supervisor: bool, sum: bool) -> bool {
+        match (supervisor, sum) {
+            (false, _) => self.random.chance(92),
+            (true, false) => self.random.chance(30),
+            (true, true) => self.random.chance(65),
+        }
     }
 
     /// The low bits of a leaf: mostly all permissions, at times fewer; RSW and G vary.
@@ -609,6 +637,14 @@ impl World {
             _ => self.random.of_width(47) * 512,
         }
     }
+}
+
+/// Who uses an address space, and what its process context allows supervisors.
+#[derive(Clone, Copy, Default)]
+struct Owner {
+    process: Option<u64>,
+    ens: bool,
+    sum: bool,
 }
 
 /// What the tables of a device have in common.
