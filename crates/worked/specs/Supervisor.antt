@@ -13,14 +13,15 @@ use Rattle.worked.specs.Layout.{words, settings}
 use Rattle.worked.specs.Table.{Row, row, one, shown}
 
 -- three pages: device 0 with a PD8 process directory and no second stage; process 0 with ENS, process 1 with ENS and SUM; their one table, a 1 GiB page with U = 0, then one with U = 1, each with V, R, W, X, A, D
-unfoldable pub pages : List ℕ
+unfoldable pub bytes : List ℕ
 unfolding words
-pages =
+bytes =
     words (0x21 ∷ 0 ∷ 0 ∷ 0x1000000000040001 ∷ [])
     ++ (replicate (4096 - 32) 0
     ++ (words (3 ∷ 0x8000000000040002 ∷ 7 ∷ 0x8000000000040002 ∷ [])
     ++ (replicate (4096 - 32) 0 ++ (words (0x200000CF ∷ 0x300000DF ∷ []) ++ replicate (4096 - 16) 0))))
 
+-- by a supervisor or a user, under this SUM, on the page with this U
 abbrev asks : Bool → Bool → Bool → Access → DeviceRequest
 asks supervisor sum u x =
     record {
@@ -33,7 +34,7 @@ asks supervisor sum u x =
     }
 
 abbrev answer : Bool → Bool → Bool → Access → List ℕ
-answer supervisor sum u x = shown (requestOf (settings 2) pages (asks supervisor sum u x) 0)
+answer supervisor sum u x = shown (requestOf (settings 2) bytes (asks supervisor sum u x) 0)
 
 -- translated, to the page with this U
 abbrev reaches : Bool → List ℕ
