@@ -12,16 +12,16 @@ use Rattle.directory.specs.declared.DeviceContext.{DeviceContext}
 use Rattle.directory.specs.declared.ProcessContext.{ProcessContext}
 use Rattle.directory.specs.Pointers.{tooWide}
 use Rattle.directory.specs.Process.{processIndex, processMisconfigured, processTooWide}
-use Rattle.directory.specs.Fields.{modeOf, pageOf, bareOf, validMode}
-use Rattle.directory.specs.Device.{pdtv, dpe, deviceMisconfigured}
+use Rattle.directory.specs.Fields.{modeOf, pageOf, bareOf, schemeMode, validMode}
+use Rattle.directory.specs.Device.{pdtv, dpe, guestPageBits, deviceMisconfigured}
 use Rattle.directory.proofs.Tests.{less-is, or3, or4, or-list}
 
 -- a mode's tests
 pub bare-is : (w v : ℕ) → v ≡ modeOf w → eqb v 0 ≡ bareOf w
 bare-is w v h = ap (λ n. eqb n 0) h
 
-pub valid-is : (w v : ℕ) (b : Bool) → b ≡ bareOf w → v ≡ modeOf w → (b || eqb v 8) ≡ validMode w
-valid-is w v b p h = ap (λ t. t || eqb v 8) p ∙ ap (λ n. bareOf w || eqb n 8) h
+pub valid-is : (w v : ℕ) (b s : Bool) → b ≡ bareOf w → v ≡ modeOf w → s ≡ schemeMode v → (b || s) ≡ validMode w
+valid-is w v b s p h k = ap (λ t. t || s) p ∙ ap (λ t. bareOf w || t) (k ∙ ap schemeMode h)
 
 module _ (c : DeviceContext) where
   abbrev pub controlTests : List Bool
@@ -31,8 +31,8 @@ module _ (c : DeviceContext) where
   tableTests =
       anySet (c .fsc) 59 44
       ∷ anySet (c .msiptp) 59 44
-      ∷ anySet (c .mask) 63 29
-      ∷ anySet (c .pattern) 63 29
+      ∷ anySet (c .mask) 63 guestPageBits
+      ∷ anySet (c .pattern) 63 guestPageBits
       ∷ anySet (c .reserved) 63 0
       ∷ []
 
@@ -89,7 +89,7 @@ module _ (c : DeviceContext) where
     abbrev seconds : Bool → Bool
     seconds q =
         any
-        (not (q || eqb (modeOf (c .iohgatp)) 8)
+        (not (q || schemeMode (modeOf (c .iohgatp)))
         ∷ not (leb (modeOf (c .msiptp)) 1)
         ∷ (not q && not (eqb (pageOf (c .iohgatp) % 4) 0))
         ∷ (q && not (bareOf (c .msiptp)))
@@ -112,7 +112,7 @@ module _ (c : DeviceContext) where
     pub second-on : (v : Bool) (k p : ℕ) → b ≡ false → v ≡ validMode (c .iohgatp) → k ≡ modeOf (c .msiptp) → p ≡ pageOf (c .iohgatp) → ((not v || ltb 1 k) || not (eqb (p % 4) 0)) ≡ any secondTests
     second-on v k p t hv hk hp =
         by-bare t
-        (or3 (ap not hv ∙ ap (λ q. not (q || eqb (modeOf (c .iohgatp)) 8)) (sym hb ∙ t)) (less-is 1 k ∙ ap (λ n. not (leb n 1)) hk) (ap (λ n. not (eqb (n % 4) 0)) hp))
+        (or3 (ap not hv ∙ ap (λ q. not (q || schemeMode (modeOf (c .iohgatp)))) (sym hb ∙ t)) (less-is 1 k ∙ ap (λ n. not (leb n 1)) hk) (ap (λ n. not (eqb (n % 4) 0)) hp))
 
 pub process-checks : (c : ProcessContext) (x y z u : Bool) → x ≡ anySet (c .ta) 11 3 → y ≡ anySet (c .ta) 63 32 → z ≡ anySet (c .fsc) 59 44 → u ≡ validMode (c .fsc) → (((x || y) || z) || not u) ≡ processMisconfigured c
 unfolding processMisconfigured

@@ -25,7 +25,7 @@ use Rattle.directory.specs.declared.DeviceContext.{DeviceContext}
 use Rattle.directory.specs.declared.DeviceFound.{DeviceFound}
 use Rattle.directory.specs.declared.DeviceFound.the-variants.{Context, Fault}
 use Rattle.directory.specs.Pointers.{loadFault, invalid, misconfigured, pointers}
-use Rattle.directory.specs.Device.{deviceIndex, deviceMisconfigured, checkedDevice, deviceLoad, deviceContextAt, onLeafTable, deviceContextOf}
+use Rattle.directory.specs.Device.{guestPageBits, deviceIndex, deviceMisconfigured, checkedDevice, deviceLoad, deviceContextAt, onLeafTable, deviceContextOf}
 use Rattle.directory.proofs.Entries.{near-page, near-place, near-context}
 use Rattle.directory.proofs.Checks.{controlTests, tableTests, firstTests, secondTests}
 
@@ -198,14 +198,14 @@ third : (a b x : Bool) (xs : List Bool) → any (a ∷ b ∷ x ∷ xs) ≡ false
 third a b true xs e = clear (a ∷ b ∷ []) (true ∷ xs) e .1
 third a b false xs e = refl
 
--- a context that passes has no mask bit from 29 on
-pub mask-small : (c : DeviceContext) (q : Bool) → q ≡ deviceMisconfigured c → q ≡ false → bits (c .mask) 63 29 ≡ 0
+-- a context that passes has no mask bit above those of a guest page number
+pub mask-small : (c : DeviceContext) (q : Bool) → q ≡ deviceMisconfigured c → q ≡ false → bits (c .mask) 63 guestPageBits ≡ 0
 unfolding deviceMisconfigured
 mask-small c q h t =
     let e = clear (controlTests c) (tableTests c) (clear (controlTests c ++ tableTests c) (firstTests c ++ secondTests c) (sym h ∙ t) .0) .1 in
-    eqb-true (bits (c .mask) 63 29) 0
-    (not-false (eqb (bits (c .mask) 63 29) 0)
-    (third (anySet (c .fsc) 59 44) (anySet (c .msiptp) 59 44) (anySet (c .mask) 63 29) (anySet (c .pattern) 63 29 ∷ anySet (c .reserved) 63 0 ∷ []) e))
+    eqb-true (bits (c .mask) 63 guestPageBits) 0
+    (not-false (eqb (bits (c .mask) 63 guestPageBits) 0)
+    (third (anySet (c .fsc) 59 44) (anySet (c .msiptp) 59 44) (anySet (c .mask) 63 guestPageBits) (anySet (c .pattern) 63 guestPageBits ∷ anySet (c .reserved) 63 0 ∷ []) e))
 
 pub ruleset context-ways = (context-unread, context-invalid, context-cut, context-low, context-room, context-wrong, context-right)
 

@@ -27,9 +27,13 @@ pdtv c = bit (c .tc) 5
 abbrev pub dpe : DeviceContext → Bool
 dpe c = bit (c .tc) 9
 
--- "Guest addresses have 41 bits"
+-- 003: "If capabilities.Sv57x4 is 1, then MGPAW = 59": the width is that of the widest scheme, whichever a context uses (D39)
 abbrev pub guestBits : ℕ
-guestBits = 41
+guestBits = 59
+
+-- as many bits of mask and pattern are usable: Req 03, "mask and pattern bits up to 46 are usable and those above stay reserved"
+abbrev pub guestPageBits : ℕ
+guestPageBits = guestBits - 12
 
 -- 003, "Device-context configuration checks", by number; those that name absent capabilities fall under "every other bit set is 259"
 unfoldable pub deviceMisconfigured : DeviceContext → Bool
@@ -43,16 +47,16 @@ deviceMisconfigured c =
     ∷ anySet (c .ta) 63 32
     ∷ anySet (c .fsc) 59 44
     ∷ anySet (c .msiptp) 59 44
-    ∷ anySet (c .mask) 63 (guestBits - 12)
-    ∷ anySet (c .pattern) 63 (guestBits - 12)
+    ∷ anySet (c .mask) 63 guestPageBits
+    ∷ anySet (c .pattern) 63 guestPageBits
     ∷ anySet (c .reserved) 63 0
     -- 8: PDTV = 1 and pdtp's mode isn't Bare, PD8, PD17 or PD20
     ∷ (pdtv c && not (leb (modeOf (c .fsc)) 3))
-    -- 9, 10: PDTV = 0 and iosatp's mode isn't Bare or Sv39
+    -- 9, 10: PDTV = 0 and iosatp's mode isn't Bare, Sv39, Sv48 or Sv57
     ∷ (not (pdtv c) && not (validMode (c .fsc)))
     -- 12: PDTV = 0 and DPE = 1
     ∷ (not (pdtv c) && dpe c)
-    -- 13, 14: iohgatp's mode isn't Bare or Sv39x4
+    -- 13, 14: iohgatp's mode isn't Bare, Sv39x4, Sv48x4 or Sv57x4
     ∷ not (validMode (c .iohgatp))
     -- 16: msiptp's mode isn't Off or Flat
     ∷ not (leb (modeOf (c .msiptp)) 1)

@@ -46,7 +46,7 @@ processMisconfigured c =
     anySet (c .ta) 11 3
     ∷ anySet (c .ta) 63 32
     ∷ anySet (c .fsc) 59 44
-    -- 2, 3: the mode isn't Bare or Sv39
+    -- 2, 3: the mode isn't Bare, Sv39, Sv48 or Sv57
     ∷ not (validMode (c .fsc))
     ∷ [])
 

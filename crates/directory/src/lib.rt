@@ -20,8 +20,8 @@ ghost use Rattle.memory.specs.Walk.{run};
 ghost use Rattle.paging.specs.Stages.{direct};
 ghost use Rattle.paging.specs.Within.{Within};
 ghost use Rattle.directory.specs.Pointers.{loadFault, invalid as invalidOf, misconfigured as misconfiguredOf, pointerOf, pointers, tooWide};
-ghost use Rattle.directory.specs.Fields.{modeOf, pageOf, bareOf, validMode, firstTable, secondTable, bareTable};
-ghost use Rattle.directory.specs.Device.{pdtv, dpe, deviceIndex, deviceMisconfigured, deviceContextAt, deviceContextOf};
+ghost use Rattle.directory.specs.Fields.{modeOf, pageOf, bareOf, schemeMode, validMode, firstScheme, secondScheme, firstTable, secondTable, bareTable};
+ghost use Rattle.directory.specs.Device.{pdtv, dpe, guestPageBits, deviceIndex, deviceMisconfigured, deviceContextAt, deviceContextOf};
 ghost use Rattle.directory.specs.Process.{processIndex, processMisconfigured, processContextAt, processReach, processContextOf, processTable, processTooWide, firstTableOf};
 ghost use Rattle.directory.specs.Sound.{Near, Masked, Rooted, wantedOf};
 
@@ -283,12 +283,21 @@ fn bare(w: u64) -> bool
     mode(w) == 0
 }
 
-// Bare, or the one scheme that there is.
+// A mode that stands for a scheme.
+fn scheme_mode(mode: u64) -> bool
+    ensures { λ r. ⌜ r ≡ schemeMode mode ⌝ }
+{
+    (8 <= mode) & (mode <= 10)
+}
+
 fn valid_mode(w: u64) -> bool
     ensures { λ r. ⌜ r ≡ validMode w ⌝ }
 {
-    bare(w) | (mode(w) == 8)
+    bare(w) | scheme_mode(mode(w))
 }
+
+// Bits of a guest page number: the mask and the pattern have no more.
+const GUEST_PAGE_BITS: u64 = 47;
 
 // Reserved bits of the doublewords that hold control and attributes.
 fn control_reserved(c: DeviceContext) -> bool
@@ -303,12 +312,12 @@ fn control_reserved(c: DeviceContext) -> bool
 
 // Reserved bits of the doublewords that hold tables, mask and pattern.
 fn table_reserved(c: DeviceContext) -> bool
-    ensures { λ r. ⌜ r ≡ any (anySet (c .fsc) 59 44 ∷ anySet (c .msiptp) 59 44 ∷ anySet (c .mask) 63 29 ∷ anySet (c .pattern) 63 29 ∷ anySet (c .reserved) 63 0 ∷ []) ⌝ }
+    ensures { λ r. ⌜ r ≡ any (anySet (c .fsc) 59 44 ∷ anySet (c .msiptp) 59 44 ∷ anySet (c .mask) 63 guestPageBits ∷ anySet (c .pattern) 63 guestPageBits ∷ anySet (c .reserved) 63 0 ∷ []) ⌝ }
 {
     any_set(c.fsc, 59, 44)
         | any_set(c.msiptp, 59, 44)
-        | any_set(c.mask, 63, 29)
-        | any_set(c.pattern, 63, 29)
+        | any_set(c.mask, 63, GUEST_PAGE_BITS)
+        | any_set(c.pattern, 63, GUEST_PAGE_BITS)
         | nonzero(c.reserved)
 }
 
@@ -394,13 +403,38 @@ pub fn device_context(levels: u64, root: u64, d: u64, start: u64, window: &[u8])
     context_at(start, window, table * 4096 + 64 * device_index(d, 0))
 }
 
+// The schemes that a mode means; asked of a mode that stands for one.
+fn first_scheme(mode: u64) -> Scheme
+    ensures { λ r. ⌜ r ≡ firstScheme mode ⌝ }
+{
+    if mode == 10 {
+        return Scheme::Sv57;
+    }
+    if mode == 9 {
+        return Scheme::Sv48;
+    }
+    Scheme::Sv39
+}
+
+fn second_scheme(mode: u64) -> Scheme
+    ensures { λ r. ⌜ r ≡ secondScheme mode ⌝ }
+{
+    if mode == 10 {
+        return Scheme::Sv57x4;
+    }
+    if mode == 9 {
+        return Scheme::Sv48x4;
+    }
+    Scheme::Sv39x4
+}
+
 // What the caller needs of a context: the second stage and the message table.
 pub fn second_table(c: DeviceContext) -> PageTable
     ensures { λ r. ⌜ (r ≡ secondTable (c .iohgatp)) × (r .root < 2 ^ 44) ⌝ }
 {
     PageTable {
         on: !bare(c.iohgatp),
-        scheme: Scheme::Sv39x4,
+        scheme: second_scheme(mode(c.iohgatp)),
         root: page(c.iohgatp),
     }
 }
@@ -429,7 +463,7 @@ fn iosatp(fsc: u64) -> PageTable
 {
     PageTable {
         on: !bare(fsc),
-        scheme: Scheme::Sv39,
+        scheme: first_scheme(mode(fsc)),
         root: page(fsc),
     }
 }

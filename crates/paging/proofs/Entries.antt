@@ -68,14 +68,14 @@ module _ (x : Access) (pages : Pages) (a n e : ℕ) (v : Load) (hv : v ≡ Value
     unfolding rawLoad
     raw-refuses t = simp (hv, ← hb, o, ← hf, t)
 
-    module _ (t : f ≡ true) (size : ℕ) (hs : size ≡ 2 ^ (9 * n)) where
+    module _ (t : f ≡ true) (size k : ℕ) (hs : size ≡ 2 ^ k) (hk : k ≡ 9 * n) where
       pub raw-misaligned : (e / 1024 % 17592186044416 % size ≡ 0 → ⊥) → Raw.Faulty ≡ rawLoad x pages a n v
       unfolding rawLoad
-      raw-misaligned r = simp (hv, ← hb, o, ← hf, t, ne-eqb (e / 1024 % 17592186044416 % 2 ^ (9 * n)) 0 (simp hs at r))
+      raw-misaligned r = simp (hv, ← hb, o, ← hf, t, ne-eqb (e / 1024 % 17592186044416 % 2 ^ (9 * n)) 0 (simp (hs, hk) at r))
 
       pub raw-arrives : (off : ℕ) → off ≡ a % 2 ^ (12 + 9 * n) → e / 1024 % 17592186044416 % size ≡ 0 → Arrive (e / 1024 % 17592186044416 * 4096 + off) ≡ rawLoad x pages a n v
       unfolding rawLoad
-      raw-arrives off h r = simp (hv, ← hb, o, ← hf, t, eq-eqb (e / 1024 % 17592186044416 % 2 ^ (9 * n)) 0 (simp hs at r), h)
+      raw-arrives off h r = simp (hv, ← hb, o, ← hf, t, eq-eqb (e / 1024 % 17592186044416 % 2 ^ (9 * n)) 0 (simp (hs, hk) at r), h)
 
 pub ruleset entry-ways = (raw-violates, raw-points, raw-refuses, raw-misaligned, raw-arrives)
 

@@ -6,7 +6,7 @@ use memory::Load;
 ghost use mathlib.Core.Path.{_≡_};
 ghost use mathlib.Core.Bool.{not};
 ghost use lib.Dec.{eqb};
-ghost use Prim.Native.Nat.{ℕ, _/_, _%_, _<_, _^_};
+ghost use Prim.Native.Nat.{ℕ, _*_, _/_, _%_, _<_, _^_};
 ghost use Rattle.memory.specs.Window.{memory};
 ghost use Rattle.memory.specs.Walk.{run};
 ghost use Rattle.causes.specs.Causes.{faultAt};
@@ -19,10 +19,14 @@ ghost use Rattle.paging.specs.Stages.{secondStageOf, entryReach, firstSt
 ghost use Rattle.paging.specs.Within.{Within, Small};
 ghost use Rattle.paging.specs.Tests.{soundBits, tableBits, permitBits, leafBits, rawLoad, rawLevels, toStep, codeOf, toldBy, Tight};
 
-// The page-table schemes (01, "Fixed capabilities").
+// The page-table schemes (01, "Fixed capabilities"; 02, Req 03).
 pub enum Scheme {
     Sv39,
+    Sv48,
+    Sv57,
     Sv39x4,
+    Sv48x4,
+    Sv57x4,
 }
 
 // A stage of translation, as iosatp or iohgatp gives it: Bare where it isn't on.
@@ -111,7 +115,11 @@ impl Scheme {
     {
         match self {
             Scheme::Sv39 => 3,
+            Scheme::Sv48 => 4,
+            Scheme::Sv57 => 5,
             Scheme::Sv39x4 => 3,
+            Scheme::Sv48x4 => 4,
+            Scheme::Sv57x4 => 5,
         }
     }
 
@@ -120,7 +128,11 @@ impl Scheme {
     {
         match self {
             Scheme::Sv39 => 9,
+            Scheme::Sv48 => 9,
+            Scheme::Sv57 => 9,
             Scheme::Sv39x4 => 11,
+            Scheme::Sv48x4 => 11,
+            Scheme::Sv57x4 => 11,
         }
     }
 
@@ -129,7 +141,11 @@ impl Scheme {
     {
         match self {
             Scheme::Sv39 => 39,
+            Scheme::Sv48 => 48,
+            Scheme::Sv57 => 57,
             Scheme::Sv39x4 => 41,
+            Scheme::Sv48x4 => 50,
+            Scheme::Sv57x4 => 59,
         }
     }
 
@@ -138,7 +154,11 @@ impl Scheme {
     {
         match self {
             Scheme::Sv39 => true,
+            Scheme::Sv48 => true,
+            Scheme::Sv57 => true,
             Scheme::Sv39x4 => false,
+            Scheme::Sv48x4 => false,
+            Scheme::Sv57x4 => false,
         }
     }
 
@@ -312,6 +332,14 @@ fn offset(a: u64, n: u64) -> u64
     a % power(Scheme::PAGE_BITS + Scheme::INDEX_BITS * n)
 }
 
+// How many low bits of the page number are zero in a page of level n.
+fn zero_bits(n: u64) -> u64
+    requires { ⌜ n < 5 ⌝ }
+    ensures { λ r. ⌜ (r ≡ 9 * n) × (r < 64) ⌝ }
+{
+    Scheme::INDEX_BITS * n
+}
+
 // What a loaded entry of level n leads to.
 fn read_entry(x: Access, pages: Pages, a: u64, n: u64, v: Load) -> Raw
     requires { ⌜ n < 5 ⌝ }
@@ -325,7 +353,7 @@ fn read_entry(x: Access, pages: Pages, a: u64, n: u64, v: Load) -> Raw
         return Raw::Next(page);
     }
     if is_leaf(e, pages, x) {
-        if page % power(Scheme::INDEX_BITS * n) == 0 {
+        if page % power(zero_bits(n)) == 0 {
             return Raw::Arrive(page * 4096 + offset(a, n));
         }
         return Raw::Faulty;

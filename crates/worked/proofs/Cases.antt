@@ -1,8 +1,11 @@
 -- The worked cases hold of the definitions: the checker computes each row. Assumes nothing.
-use mathlib.Core.Path.{refl}
+use Prim.Native.Nat.{_+_, _-_}
+use mathlib.Core.Path.{_≡_, refl}
 use lib.Count.{onesIn, ones}
 use Rattle.memory.specs.Window.{memory}
-use Rattle.paging.specs.Scheme.{legalOf, indexOf}
+use Rattle.paging.specs.Scheme.{levelsOf, rootBitsOf, addressBitsOf, pageBitsOf, legalOf, indexOf}
+use Rattle.paging.specs.declared.Scheme.{Scheme}
+use Rattle.paging.specs.declared.Scheme.the-variants.{Sv39, Sv48, Sv57, Sv39x4, Sv48x4, Sv57x4}
 use Rattle.paging.specs.Entry.{entryOf, allows, mappedBy}
 use Rattle.paging.specs.Levels.{onLoad, levelOf, levels, walkOf}
 use Rattle.paging.specs.Stages.{secondStageOf, firstStageOf}
@@ -20,15 +23,29 @@ use Rattle.worked.specs.Layout.{window, settings}
 use Rattle.worked.specs.Table.{Agrees, table}
 use Rattle.worked.specs.Limits.{limits}
 use Rattle.worked.specs.Supervisor.{bytes, supervisors}
+use Rattle.worked.specs.Larger.{tables, larger}
 
 pub cases : Agrees table
 unfolding onesIn ones memory legalOf indexOf entryOf allows mappedBy onLoad levelOf levels walkOf secondStageOf firstStageOf pointerOf pointers tooWide deviceMisconfigured deviceContextAt deviceContextOf processMisconfigured processContextAt processContextOf processTable firstTableOf recognised packed extract translateReserved recordReserved onNotice onTranslate onEntry messageOf bitAt raised lowered isFile pendingOf afterStore afterTake badWindow requestRefusal untranslated isMessage guestOf stagesOf directoryOf translateOf storableAs finish requestOf afterRequest window settings table
 cases = (refl, (refl, (refl, (refl, (refl, (refl, (refl, (refl, (refl, (refl, (refl, (refl, (refl, (refl, tt))))))))))))))
 
 pub limits-hold : Agrees limits
-unfolding legalOf isFile badWindow limits
-limits-hold = (refl, (refl, (refl, (refl, (refl, (refl, (refl, (refl, (refl, (refl, (refl, (refl, (refl, (refl, (refl, (refl, tt))))))))))))))))
+unfolding isFile badWindow limits
+limits-hold = (refl, (refl, (refl, (refl, (refl, (refl, (refl, (refl, (refl, (refl, tt))))))))))
 
 pub supervisors-hold : Agrees supervisors
 unfolding memory legalOf indexOf entryOf allows mappedBy onLoad levelOf levels walkOf secondStageOf firstStageOf pointerOf pointers tooWide deviceMisconfigured deviceContextAt deviceContextOf processMisconfigured processContextAt processContextOf processTable firstTableOf badWindow requestRefusal untranslated isMessage guestOf stagesOf directoryOf translateOf finish requestOf settings bytes supervisors
 supervisors-hold = (refl, (refl, (refl, (refl, (refl, (refl, (refl, (refl, (refl, (refl, (refl, (refl, (refl, (refl, (refl, (refl, (refl, (refl, (refl, (refl, (refl, (refl, (refl, (refl, tt))))))))))))))))))))))))
+
+-- every bit of a legal address is looked at by one level or is the page's offset
+pub widths-add-up : (s : Scheme) → pageBitsOf (levelsOf s - 1) + rootBitsOf s ≡ addressBitsOf s
+widths-add-up Sv39 = refl
+widths-add-up Sv48 = refl
+widths-add-up Sv57 = refl
+widths-add-up Sv39x4 = refl
+widths-add-up Sv48x4 = refl
+widths-add-up Sv57x4 = refl
+
+pub larger-hold : Agrees larger
+unfolding memory legalOf indexOf entryOf allows mappedBy onLoad levelOf levels walkOf secondStageOf firstStageOf pointerOf pointers tooWide deviceMisconfigured deviceContextAt deviceContextOf processMisconfigured processContextAt processContextOf processTable firstTableOf recognised packed extract badWindow requestRefusal untranslated isMessage guestOf stagesOf directoryOf translateOf finish requestOf tables larger
+larger-hold = (refl, (refl, (refl, (refl, (refl, (refl, (refl, (refl, (refl, (refl, (refl, (refl, (refl, (refl, (refl, (refl, (refl, (refl, (refl, (refl, (refl, (refl, (refl, (refl, (refl, (refl, (refl, (refl, (refl, (refl, (refl, tt)))))))))))))))))))))))))))))))

@@ -2,3 +2,4 @@ pub mod Layout
 pub mod Table
 pub mod Limits
 pub mod Supervisor
+pub mod Larger

@@ -10,8 +10,11 @@ bare-requires c κs = search needs
 mode-requires : tie.Need-mode-requires
 mode-requires c κs = search needs
 
+scheme-mode-requires : tie.Need-scheme-mode-requires
+scheme-mode-requires c κs = search needs
+
 returns : tie.Need-returns
 returns c = search (checks, needs)
 
 pub valid-mode-spec : {M : Type 1} → statement M
-valid-mode-spec = tie.close (tie.spec bare-requires mode-requires returns)
+valid-mode-spec = tie.close (tie.spec bare-requires mode-requires scheme-mode-requires returns)

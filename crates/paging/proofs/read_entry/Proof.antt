@@ -22,8 +22,8 @@ returns-2 c = search (entry-ways, needs)
 is-leaf-requires : tie.Need-is-leaf-requires
 is-leaf-requires c κs = search needs
 
-mul-power : tie.Need-mul-power
-mul-power c = search needs
+zero-bits-requires : tie.Need-zero-bits-requires
+zero-bits-requires c κs = search needs
 
 power-requires : tie.Need-power-requires
 power-requires c κs = search needs
@@ -59,7 +59,7 @@ read-entry-spec =
     is-table-requires
     returns-2
     is-leaf-requires
-    mul-power
+    zero-bits-requires
     power-requires
     rem-if3
     mul-t15
