@@ -54,7 +54,7 @@ fn one_bit(random: &mut Random, low: u64, high: u64) -> u64 {
 fn beyond(random: &mut Random, page_number: u64) -> u64 {
     match random.below(2) {
         0 => random.pick(&[1 << 29, 1 << 38]),
-        _ => page_number % (1 << 44) | one_bit(random, 29, 43),
+        _ => (page_number % (1 << 44)) | one_bit(random, 29, 43),
     }
 }
 
@@ -76,21 +76,25 @@ fn pointer_damage(random: &mut Random, entry: u64) -> u64 {
     }
 }
 
-/// One of the eight doublewords of a device context.
-fn context_damage(world: &mut World, address: u64) {
-    let kind = world.random.below(34);
-    let word = match kind {
+/// The doubleword of a device context that a kind of damage is for.
+fn context_word(random: &mut Random, kind: u64) -> u64 {
+    match kind {
         0..=12 => 0,
         13..=16 => 1,
         17..=18 => 2,
-        19..=23 => 3,
+        19..=23 | 31 | 32 => 3,
         24..=27 => 4,
         28 => 5,
         29 => 6,
         30 => 7,
-        31 | 32 => 3,
-        _ => world.random.below(8),
-    };
+        _ => random.below(8),
+    }
+}
+
+/// One of the eight doublewords of a device context.
+fn context_damage(world: &mut World, address: u64) {
+    let kind = world.random.below(34);
+    let word = context_word(&mut world.random, kind);
     let random = &mut world.random;
     let place = address + word * 8;
     let value = world.layout.get(place);

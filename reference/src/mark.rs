@@ -590,12 +590,7 @@ impl Mark {
                 let first = page_name(&scheme::FIRST, first);
                 format!("{first} on {}", page_name(&scheme::SECOND, second))
             }
-            Mark::Recognised(first, second, beyond) => {
-                let first = scheme_name(&scheme::FIRST, first);
-                let second = scheme_name(&scheme::SECOND, second);
-                let place = if beyond { "beyond" } else { "within" };
-                format!("{first} on {second}: {place} the guest limit")
-            }
+            Mark::Recognised(first, second, beyond) => recognised_name(first, second, beyond),
             Mark::TopBit(word, top) => {
                 let bit = page_bits(0) + top;
                 format!("highest one at address bit {bit}, in the {}", word.name())
@@ -603,6 +598,14 @@ impl Mark {
             Mark::Cause(stage, cause) => format!("{}: {cause}", stage.name()),
         }
     }
+}
+
+/// The schemes of a recognised address, and its place by the second one's limit.
+fn recognised_name(first: u64, second: u64, beyond: bool) -> String {
+    let first = scheme_name(&scheme::FIRST, first);
+    let second = scheme_name(&scheme::SECOND, second);
+    let place = if beyond { "beyond" } else { "within" };
+    format!("{first} on {second}: {place} the guest limit")
 }
 
 /// The scheme of a stage and the size of its page.

@@ -181,7 +181,7 @@ fn check_non_leaf(task: &mut Task, walk: Walk, entry: u64) -> Step<()> {
 /// Steps 5 to 7: alignment of a large page, U, permission, A and D.
 fn check_leaf(task: &mut Task, walker: &Walker, entry: u64, level: u64) -> Step<()> {
     // 01, The two walks: the low page number of a large page is zero, at every level.
-    if bits(entry, 53, 10) % (1 << (page_bits(level) - 12)) != 0 {
+    if !bits(entry, 53, 10).is_multiple_of(1 << (page_bits(level) - 12)) {
         let scheme = walker.root.scheme;
         (task.see)(Mark::Misaligned(walker.walk, scheme.mode, level));
         return Err(page_fault_of(task, walker.walk, EntryFault::Misaligned));

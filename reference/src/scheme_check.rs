@@ -56,6 +56,11 @@ fn second_context(mode: u64) -> [u64; 8] {
     [1, root_of(mode, SECOND), 0, 0, 0, 0, 0, 0]
 }
 
+/// A context with a process directory of this mode, both stages Bare; DPE stands for process 0.
+fn pdtp_context(mode: u64) -> [u64; 8] {
+    [0x221, 0, 0, root_of(mode, PROCESSES), 0, 0, 0, 0]
+}
+
 /// A read of one byte.
 fn byte(address: u64) -> Request {
     Request {
@@ -210,46 +215,39 @@ fn pairs(checks: &mut Checks) {
 /// Each of the sixteen modes of each field that has one: 0, 8, 9 and 10 are legal, and 0 to 3 for a
 /// process directory.
 fn modes(checks: &mut Checks) {
-    let directory = Answer::Fault {
-        cause: 259,
-        stage: Stage::Directory,
-    };
-    let process = fault(267, Stage::ProcessDirectory);
-    let absent = fault(266, Stage::ProcessDirectory);
     let passed = Answer::Translated(0x5000);
-    let mut asked = plain(Access::Read, 0x5000);
+    let device = fault(259, Stage::Directory);
     for mode in 0..16 {
-        let by_mode = |on: Answer, refused: Answer| match mode {
-            0 => passed,
-            8..=10 => on,
-            _ => refused,
+        let process = {
+            let mut layout = bench(pdtp_context(1));
+            layout.put(PROCESSES, 1);
+            layout.put(PROCESSES + 8, root_of(mode, FIRST));
+            layout
         };
-        asked.process_id = None;
-        let found = run(&mut bench(first_context(mode)), &asked, 0);
-        let expected = by_mode(fault(13, Stage::First), directory);
-        checks.answer(&format!("device context, fsc mode {mode}"), found, expected);
-        let found = run(&mut bench(second_context(mode)), &asked, 0);
-        let expected = by_mode(fault(21, Stage::Second), directory);
-        checks.answer(&format!("iohgatp mode {mode}"), found, expected);
-        asked.process_id = Some(0);
-        let pdtp = |mode| bench([0x21, 0, 0, root_of(mode, PROCESSES), 0, 0, 0, 0]);
-        let expected = match mode {
-            0 => passed,
-            1..=3 => absent,
-            _ => directory,
-        };
-        let found = run(&mut pdtp(mode), &asked, 0);
-        checks.answer(&format!("pdtp mode {mode}"), found, expected);
-        let mut layout = pdtp(1);
-        layout.put(PROCESSES, 1);
-        layout.put(PROCESSES + 8, root_of(mode, FIRST));
-        let found = run(&mut layout, &asked, 0);
-        let expected = by_mode(fault(13, Stage::First), process);
-        checks.answer(
-            &format!("process context, fsc mode {mode}"),
-            found,
-            expected,
-        );
+        let first = fault(13, Stage::First);
+        let second = fault(21, Stage::Second);
+        let absent = fault(266, Stage::ProcessDirectory);
+        let misconfigured = fault(267, Stage::ProcessDirectory);
+        for (name, mut layout, legal, on, refused) in [
+            ("fsc", bench(first_context(mode)), 8..=10, first, device),
+            (
+                "iohgatp",
+                bench(second_context(mode)),
+                8..=10,
+                second,
+                device,
+            ),
+            ("pdtp", bench(pdtp_context(mode)), 1..=3, absent, device),
+            ("process fsc", process, 8..=10, first, misconfigured),
+        ] {
+            let expected = match mode {
+                0 => passed,
+                _ if legal.contains(&mode) => on,
+                _ => refused,
+            };
+            let found = run(&mut layout, &plain(Access::Read, 0x5000), 0);
+            checks.answer(&format!("{name} mode {mode}"), found, expected);
+        }
     }
 }
 
