@@ -1,4 +1,5 @@
-//! The program's own checks: P1 to P14 of 01, its limits, and the order of its refusals.
+//! The program's own checks: P1 to P14 of 01, its limits (with those of every scheme), and the order
+//! of its refusals.
 
 use crate::device;
 use crate::generate::Call;

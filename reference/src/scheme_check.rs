@@ -69,15 +69,27 @@ fn byte(address: u64) -> Request {
     }
 }
 
-/// Each access at an address, against the fault of each.
-fn each_access(checks: &mut Checks, name: &str, layout: &mut Layout, address: u64, stage: Stage) {
+/// One byte read at each address; then each access at the first address beyond the limit.
+fn limits(
+    checks: &mut Checks,
+    name: &str,
+    layout: &mut Layout,
+    stage: Stage,
+    rows: &[(String, u64, Answer)],
+) {
+    for (text, address, expected) in rows {
+        let found = run(layout, &byte(*address), 0);
+        checks.answer(&format!("{name} at {text}"), found, *expected);
+    }
     let causes = match stage {
         Stage::First => [13, 15, 12],
         _ => [21, 23, 20],
     };
+    // The second row is the limit itself.
+    let (text, address, _) = &rows[1];
     for (access, cause) in Access::ALL.into_iter().zip(causes) {
-        let found = run(layout, &plain(access, address), 0);
-        let name = format!("{name}, {}", access.name());
+        let found = run(layout, &plain(access, *address), 0);
+        let name = format!("{name} at {text}, {}", access.name());
         checks.answer(&name, found, fault(cause, stage));
     }
 }
@@ -90,11 +102,10 @@ fn first_limits(checks: &mut Checks) {
         for (index, page) in [(255, 3), (256, 5), (511, 7)] {
             layout.put(FIRST + index * 8, leaf(page * unit, ALL_FLAGS));
         }
-        let low = 1u64 << (bits - 1);
+        let (sign, low) = (bits - 1, 1u64 << (bits - 1));
         let page_fault = fault(13, Stage::First);
         let passed = Answer::Translated;
-        let sign = bits - 1;
-        for (text, address, expected) in [
+        let rows = [
             (format!("2^{sign} - 1"), low - 1, passed(4 * unit - 1)),
             (format!("2^{sign}"), low, page_fault),
             (format!("2^64 - 2^{sign} - 1"), !low, page_fault),
@@ -102,17 +113,8 @@ fn first_limits(checks: &mut Checks) {
             ("2^64 - 1".to_string(), u64::MAX, passed(8 * unit - 1)),
             (format!("2^{bits} + 2^{sign}"), low * 3, page_fault),
             ("2^63".to_string(), 1 << 63, page_fault),
-        ] {
-            let found = run(&mut layout, &byte(address), 0);
-            checks.answer(&format!("{name} at {text}"), found, expected);
-        }
-        each_access(
-            checks,
-            &format!("{name} at 2^{sign}"),
-            &mut layout,
-            low,
-            Stage::First,
-        );
+        ];
+        limits(checks, name, &mut layout, Stage::First, &rows);
     }
 }
 
@@ -127,28 +129,15 @@ fn second_limits(checks: &mut Checks) {
         let top = 1u64 << bits;
         let guest_fault = fault(21, Stage::Second);
         let passed = Answer::Translated;
-        let ninth = bits - 2;
-        for (text, address, expected) in [
+        let ninth = format!("2^{}, root index 512", bits - 2);
+        let rows = [
             (format!("2^{bits} - 1"), top - 1, passed(8 * unit - 1)),
             (format!("2^{bits}"), top, guest_fault),
             ("2^64 - 1".to_string(), u64::MAX, guest_fault),
-            (
-                format!("2^{ninth}, root index 512"),
-                top / 4,
-                passed(9 * unit),
-            ),
+            (ninth, top / 4, passed(9 * unit)),
             ("0, root index 0".to_string(), 0, guest_fault),
-        ] {
-            let found = run(&mut layout, &byte(address), 0);
-            checks.answer(&format!("{name}, guest {text}"), found, expected);
-        }
-        each_access(
-            checks,
-            &format!("{name}, guest 2^{bits}"),
-            &mut layout,
-            top,
-            Stage::Second,
-        );
+        ];
+        limits(checks, name, &mut layout, Stage::Second, &rows);
     }
 }
 
