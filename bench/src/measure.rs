@@ -88,6 +88,14 @@ fn compare_two(row: &Row, ours: Side, theirs: Side) -> Result<(), String> {
     Ok(())
 }
 
+/// Whether a side takes a row's contexts for misconfigured (259): an earlier library does so where
+/// a mode or a mask came after it. No row asks for that fault.
+pub fn is_unknown(row: &Row, side: Side) -> bool {
+    let mut window = row.world.bytes.clone();
+    let first = (side.once)(row.kind, &row.world.settings, &mut window, &row.calls[0]);
+    first[..2] == [4, 259]
+}
+
 /// The first side against each of the others.
 pub fn compare(row: &Row, sides: &[Side]) -> Result<(), String> {
     sides[1..]

@@ -181,53 +181,70 @@ impl<'a> Memory<'a> {
         Some(words.map(u64::from_le_bytes))
     }
 
-    /// One walk, three levels; `root_mask` is the width of the root's index, `need` what a leaf
-    /// has under `mask`, and `reach` finds an entry's own place.
+    /// One walk from the root down; `root_mask` is the width of the root's index, `need` what a
+    /// leaf has under `mask`, and `reach` finds an entry's own place.
     #[inline(always)]
     fn walk<E: From<Broken>>(
         self,
-        root: u64,
+        tables: Tables,
         root_mask: u64,
         address: u64,
         mask: u64,
         need: u64,
         reach: impl Fn(u64) -> Result<u64, E>,
     ) -> Result<u64, E> {
-        let mut table = root;
-        for shift in [30, 21, 12] {
-            let width = if shift == 30 { root_mask } else { 0x1FF };
-            let place = reach(table + (address >> shift & width) * 8)?;
-            let Some(entry) = self.load(place) else {
+        let Tables { root, mut shift } = tables;
+        let mut place = root + (address >> shift & root_mask) * 8;
+        loop {
+            let Some(entry) = self.load(reach(place)?) else {
                 return Err(Broken::Load.into());
             };
             // Bits 63:54 are 0 wherever the page is used.
             let page = entry << 2 & !0xFFF;
-            if entry & (HIGH | V | R | W | X | U | A | D) == V {
-                table = page;
+            if entry & (HIGH | V | R | W | X | U | A | D) == V && shift > 12 {
+                shift -= 9;
+                place = page + (address >> shift & 0x1FF) * 8;
                 continue;
             }
             let offset = (1 << shift) - 1;
             if entry & mask == need && entry & (R | W) != W && page & offset == 0 {
                 return Ok(page | address & offset);
             }
-            break;
+            return Err(Broken::Entry.into());
         }
-        Err(Broken::Entry.into())
     }
 
     /// A guest address, by the second stage.
     #[inline]
-    fn second_stage(self, root: u64, address: u64, need: u64) -> Result<u64, Broken> {
-        if address >> 41 != 0 {
+    fn second_stage(self, tables: Tables, address: u64, need: u64) -> Result<u64, Broken> {
+        if address >> tables.shift > 0x7FF {
             return Err(Broken::Entry);
         }
         let need = need | U;
-        self.walk(root, 0x7FF, address, HIGH | need, need, Ok)
+        self.walk(tables, 0x7FF, address, HIGH | need, need, Ok)
     }
 }
 
-/// The second stage: the address of its root, none where it is Bare.
-type Second = Option<u64>;
+/// The tables of one stage: the address of their root, and where its index begins in an address.
+#[derive(Clone, Copy)]
+struct Tables {
+    root: u64,
+    shift: u64,
+}
+
+impl Tables {
+    /// Of an iohgatp or iosatp whose mode is 8, 9 or 10: three, four or five levels.
+    #[inline]
+    fn of(pointer: u64) -> Tables {
+        Tables {
+            root: (pointer & PAGE_NUMBER) << 12,
+            shift: 30 + 9 * (pointer >> 60 & 3),
+        }
+    }
+}
+
+/// The second stage; none where it is Bare.
+type Second = Option<Tables>;
 
 /// One request. Never inlined: requests come one at a time, as calls do to the archive.
 #[inline(never)]
@@ -319,7 +336,7 @@ fn translate(memory: Memory, mode: u64, root: u64, request: &Request) -> Result<
     }
     let [tc, iohgatp, _, fsc, msiptp, mask, pattern, _] =
         device_context(memory, mode - 1, root << 12, request.device)?;
-    let second = (iohgatp >> 60 != 0).then_some((iohgatp & PAGE_NUMBER) << 12);
+    let second = (iohgatp >> 60 != 0).then_some(Tables::of(iohgatp));
     let first = if tc & PDTV == 0 {
         if request.process.is_some() {
             return Err(DISALLOWED);
@@ -366,6 +383,8 @@ const TC: u64 = 1 | 1 << 4 | PDTV | DPE;
 const MIDDLE: u64 = 0xFFFF << 44;
 /// PSCID in a device's ta.
 const PSCID: u64 = 0xF_FFFF << 12;
+/// The modes of iohgatp and of iosatp: Bare, and the schemes of three, four and five levels.
+const SCHEMES: u64 = 1 | 7 << 8;
 /// ENS and SUM in a process's ta.
 const ENS: u64 = 1 << 1;
 const SUM: u64 = 1 << 2;
@@ -416,17 +435,17 @@ fn device_context(memory: Memory, levels: u64, root: u64, device: u64) -> Result
 #[inline]
 fn misconfigured(context: &[u64; 8]) -> bool {
     let [tc, iohgatp, ta, fsc, msiptp, mask, pattern, reserved] = *context;
-    let set = tc & !TC | ta & !PSCID | (fsc | msiptp) & MIDDLE | (mask | pattern) >> 29 | reserved;
+    let set = tc & !TC | ta & !PSCID | (fsc | msiptp) & MIDDLE | (mask | pattern) >> 47 | reserved;
     let first_mode = fsc >> 60;
     let first_wrong = if tc & PDTV != 0 {
         first_mode > 3
     } else {
-        tc & DPE != 0 || first_mode & !8 != 0
+        tc & DPE != 0 || SCHEMES >> first_mode & 1 == 0
     };
     let second_wrong = if iohgatp >> 60 == 0 {
         msiptp >> 60 != 0
     } else {
-        iohgatp >> 60 != 8 || iohgatp & 3 != 0 || msiptp >> 60 > 1
+        SCHEMES >> (iohgatp >> 60) & 1 == 0 || iohgatp & 3 != 0 || msiptp >> 60 > 1
     };
     set != 0 || first_wrong || second_wrong
 }
@@ -453,7 +472,7 @@ fn process_first_stage(
     }
     let reach = |address: u64| match second {
         None => Ok(address),
-        Some(root) => match memory.second_stage(root, address, needs(Access::Read)) {
+        Some(tables) => match memory.second_stage(tables, address, needs(Access::Read)) {
             Ok(place) => Ok(place),
             Err(Broken::Load) => Err(PDT_LOAD),
             Err(Broken::Entry) => Err(guest_page_fault(request.access)),
@@ -478,8 +497,8 @@ fn process_context(memory: Memory, place: u64, request: &Request) -> Result<u64,
     if ta & V == 0 {
         return Err(PDT_INVALID);
     }
-    let set = ta & !(PSCID | V | ENS | SUM) | fsc & MIDDLE | (fsc >> 60 & !8);
-    if set != 0 {
+    let set = ta & !(PSCID | V | ENS | SUM) | fsc & MIDDLE;
+    if set != 0 || SCHEMES >> (fsc >> 60) & 1 == 0 {
         return Err(PDT_MISCONFIGURED);
     }
     if request.supervisor && ta & ENS == 0 {
@@ -510,22 +529,22 @@ fn first_stage(
     request: &Request,
 ) -> Result<u64, Fault> {
     let access = request.access;
-    let high = (request.address as i64) >> 38;
+    let tables = Tables::of(iosatp);
+    let high = (request.address as i64) >> (tables.shift + 8);
     if high != 0 && high != -1 {
         return Err(page_fault(access));
     }
     let need = needs(access);
     let mask = HIGH | need | if iosatp & ANY_U == 0 { U } else { 0 };
     let need = if request.supervisor { need } else { need | U };
-    let root = (iosatp & PAGE_NUMBER) << 12;
     let reach = |address: u64| match second {
         None => Ok(address),
-        Some(root) => memory
-            .second_stage(root, address, needs(Access::Read))
+        Some(tables) => memory
+            .second_stage(tables, address, needs(Access::Read))
             .map_err(FirstBroken::Guest),
     };
     memory
-        .walk(root, 0x1FF, request.address, mask, need, reach)
+        .walk(tables, 0x1FF, request.address, mask, need, reach)
         .map_err(|broken| match broken {
             FirstBroken::Own(Broken::Load) => access_fault(access, Stage::First),
             FirstBroken::Own(Broken::Entry) => page_fault(access),

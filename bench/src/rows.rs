@@ -2,7 +2,7 @@
 
 use crate::call::{Call, PROCESS_GIVEN, SUPERVISOR};
 use crate::plain::Access;
-use crate::tables::{process_id, size, Plan, World, DATA, MESSAGES};
+use crate::tables::{device_data, guest_data, process_id, size, Plan, World, MESSAGES};
 use yasmurekh_reference::random::Random;
 
 /// What a row's calls are.
@@ -41,8 +41,8 @@ fn data_offset(random: &mut Random, plan: &Plan) -> u64 {
 /// Where a device's addresses of its data begin.
 fn data_base(plan: &Plan) -> u64 {
     match (plan.first, plan.second) {
-        (None, Some(_)) => 0x80_0000_0000,
-        _ => DATA,
+        (None, Some(level)) => guest_data(level),
+        (level, _) => device_data(level.unwrap_or(0)),
     }
 }
 
@@ -205,7 +205,7 @@ fn faults() -> Vec<Row> {
             "fault: second stage (21), last level",
             both,
             21,
-            |call, plan| call.address = DATA + 4_096 * plan.pages,
+            |call, plan| call.address = data_base(plan) + 4_096 * plan.pages,
         ),
         message_fault(),
     ]
@@ -250,17 +250,19 @@ fn mix() -> Row {
     row
 }
 
-/// Masks of 1, 8, 16 and 29 ones, in one run and with as many runs as fit: a guest address of 41
-/// bits leaves room for 29, so that all of them make one run.
-const MASKS: [(&str, u64); 8] = [
+/// Masks of 1, 8, 16, 29 and 47 ones in one run, and some with as many runs as fit. A guest address
+/// of 59 bits leaves room for 47 ones, all in one run, or for 24 that stand alone.
+const MASKS: [(&str, u64); 10] = [
     ("1 one", 1),
-    ("1 one, at the top", 1 << 28),
+    ("1 one, at bit 28", 1 << 28),
     ("8 ones", 0xFF),
     ("8 ones, spread", 0x5555),
     ("8 ones, spread wide", 0x1111_1111),
     ("16 ones", 0xFFFF),
     ("16 ones, spread", 0x1555_5557),
     ("29 ones", 0x1FFF_FFFF),
+    ("24 ones, spread", 0x5555_5555_5555),
+    ("47 ones", 0x7FFF_FFFF_FFFF),
 ];
 
 fn masks() -> impl Iterator<Item = Row> {
@@ -269,33 +271,42 @@ fn masks() -> impl Iterator<Item = Row> {
         .map(|(ones, mask)| messages(&format!("stored, mask of {ones}"), mask, None))
 }
 
+/// Both stages by schemes of one mode, with pages of one level in each.
+fn both_stages(mode: u64, level: u32, pages: u64) -> Row {
+    let schemes = ["Sv39 on Sv39x4", "Sv48 on Sv48x4", "Sv57 on Sv57x4"][mode as usize - 8];
+    let size = ["4 KiB", "2 MiB", "1 GiB", "512 GiB", "256 TiB"][level as usize];
+    let plan = Plan {
+        mode,
+        first: Some(level),
+        second: Some(level),
+        pages,
+        ..Plan::default()
+    };
+    row(
+        &format!("both stages, {size} / {size}, {schemes}"),
+        plan,
+        &[0],
+    )
+}
+
 /// The rows of the main table.
 pub fn main_rows() -> Vec<Row> {
-    let plan = |first, second, pages| Plan {
+    let plan = |first, second| Plan {
         first,
         second,
-        pages,
         ..Plan::default()
     };
     let mut rows = vec![
         mix(),
-        row(
-            "both stages, 4 KiB / 4 KiB",
-            plan(Some(0), Some(0), 64),
-            &[0],
-        ),
-        row(
-            "both stages, 2 MiB / 2 MiB",
-            plan(Some(1), Some(1), 64),
-            &[0],
-        ),
-        row(
-            "both stages, 1 GiB / 1 GiB",
-            plan(Some(2), Some(2), 8),
-            &[0],
-        ),
-        row("first stage only, 4 KiB", plan(Some(0), None, 64), &[0]),
-        row("second stage only, 4 KiB", plan(None, Some(0), 64), &[0]),
+        both_stages(8, 0, 64),
+        both_stages(8, 1, 64),
+        both_stages(8, 2, 8),
+        both_stages(9, 0, 64),
+        both_stages(9, 3, 8),
+        both_stages(10, 0, 64),
+        both_stages(10, 4, 8),
+        row("first stage only, 4 KiB", plan(Some(0), None), &[0]),
+        row("second stage only, 4 KiB", plan(None, Some(0)), &[0]),
         row("PD20 and both stages, 4 KiB / 4 KiB", processes(), &[0]),
         by_sum(),
         messages("stored, both stages, mask of 8 ones", 0xFF, Some(0)),

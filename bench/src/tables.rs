@@ -6,15 +6,25 @@ use crate::call::Settings;
 pub const START: u64 = 0x4000_0000;
 /// Where guests see the pages of their own tables.
 const GUEST_TABLES: u64 = 0x1000_0000;
-/// Where guests see their data.
-const GUEST_DATA: u64 = 0x80_0000_0000;
-/// Where devices see the data, and the messages' pages.
-pub const DATA: u64 = 0x10_0000_0000;
+/// Where devices see the messages' pages.
 pub const MESSAGES: u64 = 0x2000_0000;
-/// Where the data lies: outside the window.
-const HOST_DATA: u64 = 0x200_0000_0000;
 /// The pattern of message pages, below the mask.
 const PATTERN: u64 = 0x28000;
+
+/// Where devices see data in pages of a level, on an address that the level aligns.
+pub fn device_data(level: u32) -> u64 {
+    size(level).max(0x10_0000_0000)
+}
+
+/// Where guests see their data.
+pub fn guest_data(level: u32) -> u64 {
+    size(level).max(0x80_0000_0000)
+}
+
+/// Where the data lies: outside the window.
+fn host_data(level: u32) -> u64 {
+    size(level).max(0x200_0000_0000)
+}
 
 const TABLE: u64 = 1;
 /// V, R, W, X, U, A, D.
@@ -30,7 +40,9 @@ pub struct Plan {
     /// Levels of the device directory.
     pub directory: u64,
     pub devices: u32,
-    /// Level of the first stage's pages: 0 for 4 KiB, 1 for 2 MiB, 2 for 1 GiB; none for Bare.
+    /// Mode of the stages that aren't Bare: 8 for Sv39 and Sv39x4, 9 for Sv48, 10 for Sv57.
+    pub mode: u64,
+    /// Level of the first stage's pages: 0 for 4 KiB, 1 for 2 MiB, and so on; none for Bare.
     pub first: Option<u32>,
     pub second: Option<u32>,
     /// Data pages of each address space.
@@ -47,6 +59,7 @@ impl Default for Plan {
             window: 4 << 20,
             directory: 2,
             devices: 8,
+            mode: 8,
             first: Some(0),
             second: Some(0),
             pages: 64,
@@ -164,7 +177,7 @@ impl World {
         let space = self.plan.second.map(|level| self.add_space(level));
         self.put(context, 1);
         if let Some(space) = space {
-            self.put(context + 8, root(8, space.root));
+            self.put(context + 8, root(self.plan.mode, space.root));
             self.add_second_data(space);
         }
         if let Some(mask) = self.plan.mask {
@@ -227,8 +240,9 @@ impl World {
     /// Puts a leaf for an address, with the tables above it.
     fn map(&mut self, space: Option<Space>, root: u64, address: u64, level: u32, leaf: u64) {
         // The addresses used stay within nine index bits of a first-stage root.
-        let mut place = root + 8 * (address >> 30 & 0x7FF);
-        for at in (level..2).rev() {
+        let top = self.plan.mode as u32 - 6;
+        let mut place = root + 8 * (address / size(top));
+        for at in (level..top).rev() {
             let table = self.below(space, place);
             place = table + 8 * (address >> (12 + 9 * at) & 0x1FF);
         }
@@ -255,34 +269,35 @@ impl World {
         };
         for page in 0..self.plan.pages {
             let offset = page * size(level);
-            let leaf = entry(HOST_DATA + offset, USER_LEAF);
-            self.map(None, space.root, GUEST_DATA + offset, level, leaf);
+            let leaf = entry(host_data(level) + offset, USER_LEAF);
+            self.map(None, space.root, guest_data(level) + offset, level, leaf);
         }
     }
 
     /// A first stage with the data, two pages that fault, and the messages; gives iosatp.
     fn add_first_stage(&mut self, space: Option<Space>, level: u32) -> u64 {
         let table = self.page();
-        let base = match space {
-            Some(_) => GUEST_DATA,
-            None => HOST_DATA,
+        let base = match self.plan.second {
+            Some(second) => guest_data(second),
+            None => host_data(level),
         };
+        let data = device_data(level);
         for page in 0..self.plan.pages {
             let offset = page * size(level);
             let leaf = entry(base + offset, USER_LEAF);
-            self.map(space, table, DATA + offset, level, leaf);
+            self.map(space, table, data + offset, level, leaf);
         }
         // One page beyond the data that the second stage doesn't map.
         let beyond = self.plan.pages * size(level);
         let leaf = entry(base + beyond, USER_LEAF);
-        self.map(space, table, DATA + beyond, level, leaf);
+        self.map(space, table, data + beyond, level, leaf);
         for (number, page) in self.message_pages.clone().into_iter().enumerate() {
             let leaf = entry(page, USER_LEAF);
             let address = MESSAGES + 4_096 * number as u64;
             self.map(space, table, address, 0, leaf);
         }
         let named = self.name(space, table);
-        root(8, named)
+        root(self.plan.mode, named)
     }
 
     /// A message table with up to 16 entries that store; gives its address. The table may begin

@@ -57,7 +57,11 @@ impl Soup {
         let flags = [0x01, 0xDF, 0xD7, 0xDB, 0xD9, 0xCF, 0x5F, 0x9F, 0x00];
         let place = match self.random.below(10) {
             0..=6 => self.page(),
-            7..=8 => self.random.below(1 << 26) << 18,
+            // Large pages, aligned.
+            7..=8 => {
+                let low = self.random.pick(&[18, 27, 36]);
+                self.random.of_width(44) >> low << low
+            }
             _ => self.random.of_width(44),
         };
         place << 10 | self.random.pick(&flags)
@@ -68,12 +72,12 @@ impl Soup {
             0 => self
                 .random
                 .pick(&[0x01, 0x01, 0x21, 0x21, 0x221, 0x11, 0x00]),
-            1 => self.mode(&[0, 8, 8, 8]) | self.guest_root(),
+            1 => self.mode(&[0, 8, 9, 10]) | self.guest_root(),
             2 => self.random.of_width(20) << 12,
-            3 => self.mode(&[0, 0, 0, 0, 8, 8, 1, 2, 3]) | self.mostly(2),
+            3 => self.mode(&[0, 0, 0, 0, 8, 9, 10, 1, 2, 3]) | self.mostly(2),
             4 => self.mode(&[0, 1, 1]) | self.mostly(1),
-            5 => self.random.pick(&[63, 63, 62, 7, 5, 0]),
-            6 => self.random.below(64),
+            5 => self.random.pick(&[63, 63, 62, 7, 5, 0, 1 << 46 | 31]),
+            6 => self.random.below(64) | self.random.pick(&[0, 0, 0, 1 << 46]),
             _ => 0,
         }
     }
@@ -90,7 +94,7 @@ impl Soup {
     fn process_word(&mut self, place: usize) -> u64 {
         match place % 2 {
             0 => self.random.pick(&[0b001, 0b011, 0b101, 0b111]) | self.random.of_width(20) << 12,
-            _ => self.mode(&[0, 8, 8]) | self.page(),
+            _ => self.mode(&[0, 8, 9, 10]) | self.page(),
         }
     }
 
@@ -120,9 +124,10 @@ impl Soup {
 
     fn address(&mut self) -> u64 {
         let page = match self.random.below(6) {
-            0..=2 => self.random.below(64),
+            0..=1 => self.random.below(64),
+            2 => self.random.below(64) | 1 << 46,
             3 => self.random.below(4) << 18 | self.random.below(4) << 9 | self.random.below(512),
-            4 => self.random.of_width(29),
+            4 => self.random.of_width(47),
             _ => any(&mut self.random) >> 12,
         };
         page << 12 | self.random.pick(&[0, 0, 0, 4, 4, 8])
@@ -229,7 +234,7 @@ fn pages_that_point_anywhere() {
     let coverage = compare_lists((0..1_000).map(Soup::list));
     println!("{:?}, {} marks", coverage.answers, coverage.marks.len());
     assert!(coverage.answers.iter().all(|count| *count > 20));
-    assert!(coverage.marks.len() > 200);
+    assert!(coverage.marks.len() > 300);
 }
 
 #[test]

@@ -4,10 +4,10 @@
 use yasmurekh_compare::{run, Comparison, Difference, Found, Library, Options, Reference, Side};
 use yasmurekh_reference::coverage::run_call;
 use yasmurekh_reference::generate::{Call, List};
-use yasmurekh_reference::mark::{Mark, UserBit, Walk};
+use yasmurekh_reference::mark::{Edge, Field, Mark, Setting, UserBit, Walk, Word};
 use yasmurekh_reference::text::read_lists;
-use yasmurekh_reference::types::page_fault;
-use yasmurekh_reference::{report, Access, Answer, Report, Stage};
+use yasmurekh_reference::types::{guest_page_fault, page_fault};
+use yasmurekh_reference::{report, Access, Answer, Report, Request, Stage};
 
 /// A side with something done to its answers, its windows and its reports.
 struct Mutant<S> {
@@ -97,8 +97,11 @@ fn no_difference_without_a_mutation() {
 
 #[test]
 fn another_cause() {
-    let found = find_mutant(|_, _, _, answer| match answer {
-        Answer::Fault { cause: 259, stage } => Answer::Fault { cause: 258, stage },
+    // Under a one-level directory, so that no case needs a non-leaf entry.
+    let found = find_mutant(|call, _, _, answer| match (call, answer) {
+        (Call::Request { mode: 2, .. }, Answer::Fault { cause: 259, stage }) => {
+            Answer::Fault { cause: 258, stage }
+        }
         _ => answer,
     });
     let misconfigured = |cause| Answer::Fault {
@@ -297,6 +300,242 @@ fn user_pages_open_to_read_for_execute() {
         by_sum && look.access == Access::ReadForExecute
     });
     assert!(!is_page_fault(other) && is_page_fault(reference));
+}
+
+/// What a wrong rule makes of a call.
+enum Instead {
+    /// This answer.
+    Answer(Answer),
+    /// The answer to the same request at another address.
+    Address(u64),
+}
+
+/// A mark that a request met, and what a wrong rule makes of the request then, if anything.
+type Wrong = fn(&Mark, &Request) -> Option<Instead>;
+
+/// The reference with a wrong rule where its calls meet certain marks.
+struct WrongRule {
+    wrong: Wrong,
+}
+
+impl Side for WrongRule {
+    fn call(&mut self, start: u64, window: &mut [u8], call: &Call) -> Answer {
+        let before = window.to_vec();
+        let mut instead = None;
+        let answer = run_call(start, window, call, &mut |mark| {
+            if let Call::Request { request, .. } = call {
+                instead = instead.take().or((self.wrong)(&mark, request));
+            }
+        });
+        let Some(instead) = instead else {
+            return answer;
+        };
+        window.copy_from_slice(&before);
+        match (instead, *call) {
+            (Instead::Answer(other), _) => other,
+            (Instead::Address(address), mut other) => {
+                if let Call::Request { request, .. } = &mut other {
+                    request.address = address;
+                }
+                run_call(start, window, &other, &mut |_| {})
+            }
+        }
+    }
+
+    fn report(&mut self, start: u64, window: &[u8], file: u64) -> Report {
+        report(start, window, file)
+    }
+}
+
+/// A fault instead.
+fn fault(cause: u64, stage: Stage) -> Option<Instead> {
+    Some(Instead::Answer(Answer::Fault { cause, stage }))
+}
+
+/// A guest page fault instead.
+fn second_fault(request: &Request) -> Option<Instead> {
+    fault(guest_page_fault(request.access), Stage::Second)
+}
+
+/// What a check that doesn't look lets through: the address counts no more than that it is no fault.
+fn let_through(request: &Request) -> Option<Instead> {
+    Some(Instead::Answer(Answer::Translated(request.address)))
+}
+
+/// Finds each wrong rule, down to one request.
+fn find_each(rules: &[(&str, Wrong)]) {
+    for (name, wrong) in rules {
+        println!("# {name}");
+        let found = find(WrongRule { wrong: *wrong }, Reference::default());
+        let [Call::Request { .. }] = found.smallest.calls[..] else {
+            panic!("{name}: more than one request");
+        };
+        let answers = matches!(found.smallest_difference, Difference::Answer { .. });
+        assert!(answers, "{name}: {}", found.smallest_difference);
+    }
+}
+
+/// The root index of a guest's scheme without its two extra bits.
+fn nine_bits(request: &Request, address_bits: u32) -> Option<Instead> {
+    let kept = request.address & !(3 << (address_bits - 2));
+    Some(Instead::Address(kept))
+}
+
+#[test]
+fn nine_root_index_bits() {
+    find_each(&[
+        ("Sv39x4", |mark, request| match mark {
+            Mark::Passed(None, Some((8, _))) => nine_bits(request, 41),
+            _ => None,
+        }),
+        ("Sv48x4", |mark, request| match mark {
+            Mark::Passed(None, Some((9, _))) => nine_bits(request, 50),
+            _ => None,
+        }),
+        ("Sv57x4", |mark, request| match mark {
+            Mark::Passed(None, Some((10, _))) => nine_bits(request, 59),
+            _ => None,
+        }),
+    ]);
+}
+
+#[test]
+fn the_limit_of_another_scheme() {
+    find_each(&[
+        ("Sv39x4's for Sv48x4", |mark, request| match mark {
+            Mark::Passed(None, Some((9, _))) if request.address >> 41 != 0 => second_fault(request),
+            _ => None,
+        }),
+        ("Sv48x4's for Sv57x4", |mark, request| match mark {
+            Mark::Passed(None, Some((10, _))) if request.address >> 50 != 0 => {
+                second_fault(request)
+            }
+            _ => None,
+        }),
+        ("Sv57x4's for Sv48x4", |mark, request| match mark {
+            Mark::Edge(Walk::SecondFinal, 9, Edge::FirstAbove, _) => {
+                Some(Instead::Address(request.address % (1 << 50)))
+            }
+            _ => None,
+        }),
+        ("Sv39's for Sv48", |mark, request| match mark {
+            Mark::Passed(Some((9, _)), _) if is_wide(request.address, 38) => {
+                fault(page_fault(request.access), Stage::First)
+            }
+            _ => None,
+        }),
+        ("Sv48's for Sv57", |mark, request| match mark {
+            Mark::Passed(Some((10, _)), _) if is_wide(request.address, 47) => {
+                fault(page_fault(request.access), Stage::First)
+            }
+            _ => None,
+        }),
+        ("Sv57's without its sign", |mark, request| match mark {
+            Mark::Passed(Some((10, _)), _) if request.address >> 56 != 0 => {
+                fault(page_fault(request.access), Stage::First)
+            }
+            _ => None,
+        }),
+    ]);
+}
+
+/// The bits from this one on aren't all the same.
+fn is_wide(address: u64, bit: u32) -> bool {
+    let above = (address as i64) >> bit;
+    above != 0 && above != -1
+}
+
+#[test]
+fn misaligned_large_pages() {
+    find_each(&[
+        ("512 GiB, first stage", |mark, request| match mark {
+            Mark::Misaligned(Walk::First, _, 3) => let_through(request),
+            _ => None,
+        }),
+        ("512 GiB, second stage", |mark, request| match mark {
+            Mark::Misaligned(Walk::SecondFinal, _, 3) => let_through(request),
+            _ => None,
+        }),
+        ("256 TiB, either stage", |mark, request| match mark {
+            Mark::Misaligned(_, _, 4) => let_through(request),
+            _ => None,
+        }),
+        (
+            "large pages that tables are read by",
+            |mark, request| match mark {
+                Mark::Misaligned(Walk::SecondForFirst | Walk::SecondForProcess, ..) => {
+                    let_through(request)
+                }
+                _ => None,
+            },
+        ),
+    ]);
+}
+
+#[test]
+fn other_widths_of_mask_and_pattern() {
+    find_each(&[
+        ("mask bit 46 refused", |mark, _| match mark {
+            Mark::Field(Field::Top(Word::Mask, Some(46)), _) => fault(259, Stage::Directory),
+            _ => None,
+        }),
+        ("pattern bit 46 refused", |mark, _| match mark {
+            Mark::Field(Field::Top(Word::Pattern, Some(46)), _) => fault(259, Stage::Directory),
+            _ => None,
+        }),
+        ("mask bit 47 accepted", |mark, request| match mark {
+            Mark::Field(Field::Top(Word::Mask, Some(47)), _) => let_through(request),
+            _ => None,
+        }),
+        ("pattern bit 47 accepted", |mark, request| match mark {
+            Mark::Field(Field::Top(Word::Pattern, Some(47)), _) => let_through(request),
+            _ => None,
+        }),
+        (
+            "messages only within the guest limit",
+            |mark, request| match mark {
+                Mark::Recognised(_, _, true) => second_fault(request),
+                _ => None,
+            },
+        ),
+    ]);
+}
+
+#[test]
+fn other_modes_and_roots() {
+    find_each(&[
+        (
+            "mode 9 refused in a process context",
+            |mark, _| match mark {
+                Mark::Field(Field::Mode(Setting::ProcessFsc, 9), _) => {
+                    fault(267, Stage::ProcessDirectory)
+                }
+                _ => None,
+            },
+        ),
+        (
+            "mode 10 refused in a device context",
+            |mark, _| match mark {
+                Mark::Field(Field::Mode(Setting::DeviceFsc, 10), _) => fault(259, Stage::Directory),
+                _ => None,
+            },
+        ),
+        ("mode 11 accepted in iohgatp", |mark, request| match mark {
+            Mark::Field(Field::Mode(Setting::Iohgatp, 11), _) => let_through(request),
+            _ => None,
+        }),
+        (
+            "mode 9 accepted as a process directory's",
+            |mark, request| match mark {
+                Mark::Field(Field::Mode(Setting::Pdtp, 9), _) => let_through(request),
+                _ => None,
+            },
+        ),
+        ("Sv57x4's root on 4 KiB", |mark, request| match mark {
+            Mark::Field(Field::Root(10, _), false) => let_through(request),
+            _ => None,
+        }),
+    ]);
 }
 
 /// The same mutation on both sides, so that only the ledger can find it.

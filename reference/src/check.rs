@@ -1,4 +1,5 @@
-//! The program's own checks: P1 to P14 of 01, its limits, and the order of its refusals.
+//! The program's own checks: P1 to P14 of 01, its limits (with those of every scheme), and the order
+//! of its refusals.
 
 use crate::device;
 use crate::generate::Call;
@@ -7,6 +8,7 @@ use crate::layout::{leaf, pointer, root_of, Layout, ALL_FLAGS};
 use crate::ledger::Ledger;
 use crate::message::{alignment, extract, recognised};
 use crate::process;
+use crate::scheme_check;
 use crate::types::{Access, Answer, Request, Settings, Stage};
 
 /// One check: its name, and whether it holds.
@@ -18,12 +20,12 @@ pub struct Check {
 
 /// The checks made so far.
 #[derive(Default)]
-struct Checks {
+pub struct Checks {
     made: Vec<Check>,
 }
 
 impl Checks {
-    fn holds(&mut self, name: &str, holds: bool) {
+    pub fn holds(&mut self, name: &str, holds: bool) {
         self.made.push(Check {
             name: name.to_string(),
             holds,
@@ -31,7 +33,7 @@ impl Checks {
     }
 
     /// An answer compared with the one expected.
-    fn answer(&mut self, name: &str, found: Answer, expected: Answer) {
+    pub fn answer(&mut self, name: &str, found: Answer, expected: Answer) {
         let [number, a, b, c] = found.numbers();
         let stage = found.stage().map_or("", |stage| stage.name());
         let line = format!("{name}: {number} {a} {b} {c} {stage}");
@@ -56,8 +58,7 @@ pub fn all() -> Vec<Check> {
     window_limits(&mut checks);
     take_and_report(&mut checks);
     untranslated(&mut checks);
-    first_stage_limits(&mut checks);
-    second_stage_limits(&mut checks);
+    scheme_check::all(&mut checks);
     context_bits(&mut checks);
     process_rules(&mut checks);
     user_rule(&mut checks);
@@ -69,23 +70,23 @@ pub fn all() -> Vec<Check> {
     checks.made
 }
 
-const START: u64 = 0x4000_0000;
+pub const START: u64 = 0x4000_0000;
 const FILES: u64 = START + 0x1000;
-const MESSAGES: u64 = START + 0x2000;
-const FIRST: u64 = START + 0x3000;
-const SECOND: u64 = START + 0x4000;
-const PROCESSES: u64 = START + 0x8000;
+pub const MESSAGES: u64 = START + 0x2000;
+pub const FIRST: u64 = START + 0x3000;
+pub const SECOND: u64 = START + 0x4000;
+pub const PROCESSES: u64 = START + 0x8000;
 const GIGA: u64 = 1 << 30;
 const P5_ENTRY: u64 = 0x0A00_0407;
-const P6_ENTRY: [u64; 2] = [0x1000_0483, 0x1000_0000_0A00_0005];
+pub const P6_ENTRY: [u64; 2] = [0x1000_0483, 0x1000_0000_0A00_0005];
 
 /// A fault as an answer.
-fn fault(cause: u64, stage: Stage) -> Answer {
+pub fn fault(cause: u64, stage: Stage) -> Answer {
     Answer::Fault { cause, stage }
 }
 
 /// P6's answer.
-fn p6_store() -> Answer {
+pub fn p6_store() -> Answer {
     Answer::Stored {
         file: 0x4000_1200,
         notice_address: 0x2800_0000,
@@ -94,7 +95,7 @@ fn p6_store() -> Answer {
 }
 
 /// A window with device 0 in a one-level directory at its start.
-fn bench(context: [u64; 8]) -> Layout {
+pub fn bench(context: [u64; 8]) -> Layout {
     let mut layout = Layout::new(START, 16);
     for (number, word) in context.iter().enumerate() {
         layout.put(START + 8 * number as u64, *word);
@@ -103,7 +104,7 @@ fn bench(context: [u64; 8]) -> Layout {
 }
 
 /// The message context of 01's cases: mask 3, pattern 0x80004, first stage Bare.
-fn message_context() -> [u64; 8] {
+pub fn message_context() -> [u64; 8] {
     let second = root_of(8, SECOND);
     [1, second, 0, 0, root_of(1, MESSAGES), 3, 0x80004, 0]
 }
@@ -117,7 +118,7 @@ fn message_bench(entry: [u64; 2]) -> Layout {
 }
 
 /// A user request of device 0, four bytes.
-fn plain(access: Access, address: u64) -> Request {
+pub fn plain(access: Access, address: u64) -> Request {
     Request {
         device_id: 0,
         process_id: None,
@@ -129,7 +130,7 @@ fn plain(access: Access, address: u64) -> Request {
 }
 
 /// A request under the one-level directory of a bench.
-fn run(layout: &mut Layout, asked: &Request, data: u32) -> Answer {
+pub fn run(layout: &mut Layout, asked: &Request, data: u32) -> Answer {
     let settings = Settings {
         start: layout.start,
         mode: 2,
@@ -420,85 +421,19 @@ fn untranslated(checks: &mut Checks) {
     checks.answer(name, found, fault(259, Stage::Directory));
 }
 
-/// 2^38 - 1 is legal for Sv39 and 2^38 isn't.
-fn first_stage_limits(checks: &mut Checks) {
-    let mut layout = bench([1, 0, 0, root_of(8, FIRST), 0, 0, 0, 0]);
-    for index in [255, 256, 511] {
-        layout.put(FIRST + index * 8, leaf(index * GIGA, ALL_FLAGS));
-    }
-    let mut ask = |name: &str, address: u64, expected: Answer| {
-        let mut asked = plain(Access::Read, address);
-        asked.length = 1;
-        let found = run(&mut layout, &asked, 0);
-        checks.answer(name, found, expected);
-    };
-    let low = 1u64 << 38;
-    let page_fault = fault(13, Stage::First);
-    ask(
-        "Sv39 at 2^38 - 1",
-        low - 1,
-        Answer::Translated(256 * GIGA - 1),
-    );
-    ask("Sv39 at 2^38", low, page_fault);
-    ask("Sv39 at 2^64 - 2^38 - 1", u64::MAX - low, page_fault);
-    ask(
-        "Sv39 at 2^64 - 2^38",
-        u64::MAX - low + 1,
-        Answer::Translated(256 * GIGA),
-    );
-    ask(
-        "Sv39 at 2^64 - 1",
-        u64::MAX,
-        Answer::Translated(512 * GIGA - 1),
-    );
-    ask("Sv39 at 2^39 + 2^38", low * 3, page_fault);
-    ask("Sv39 at 2^63", 1 << 63, page_fault);
-    let found = run(&mut layout, &plain(Access::Write, low), 0);
-    checks.answer("Sv39 write at 2^38", found, fault(15, Stage::First));
-    let found = run(&mut layout, &plain(Access::ReadForExecute, low), 0);
-    checks.answer("Sv39 execute at 2^38", found, fault(12, Stage::First));
-}
-
-/// Guest 2^41 - 1 may pass and 2^41 is a guest page fault; the root index has eleven bits.
-fn second_stage_limits(checks: &mut Checks) {
-    let mut layout = bench([1, root_of(8, SECOND), 0, 0, 0, 0, 0, 0]);
-    layout.put(SECOND + 2_047 * 8, leaf(7 * GIGA, ALL_FLAGS));
-    layout.put(SECOND + 512 * 8, leaf(9 * GIGA, ALL_FLAGS));
-    let mut ask = |name: &str, address: u64, expected: Answer| {
-        let mut asked = plain(Access::Read, address);
-        asked.length = 1;
-        let found = run(&mut layout, &asked, 0);
-        checks.answer(name, found, expected);
-    };
-    let top = 1u64 << 41;
-    let guest_fault = fault(21, Stage::Second);
-    ask("guest 2^41 - 1", top - 1, Answer::Translated(8 * GIGA - 1));
-    ask("guest 2^41", top, guest_fault);
-    ask("guest 2^64 - 1", u64::MAX, guest_fault);
-    ask(
-        "guest 2^39: root index 512",
-        1 << 39,
-        Answer::Translated(9 * GIGA),
-    );
-    ask("guest 0: root index 0", 0, guest_fault);
-    let found = run(&mut layout, &plain(Access::Write, top), 0);
-    checks.answer("guest write at 2^41", found, fault(23, Stage::Second));
-    let found = run(&mut layout, &plain(Access::ReadForExecute, top), 0);
-    checks.answer("guest execute at 2^41", found, fault(20, Stage::Second));
-}
-
 /// Each of the 512 bits of a valid device context: which ones make it misconfigured.
 fn context_bits(checks: &mut Checks) {
     let low44 = (1u64 << 44) - 1;
     // The bits that may change alone, word by word, in the message context (PDTV = 0).
     let free = [
         1 << 4 | 1 << 5,
-        ((1 << 60) - 1) & !3,
+        // Mode 8 becomes 9 or 10.
+        ((1 << 62) - 1) & !3,
         0xFFFF_F000,
         low44 | 1 << 63,
         low44 | 1 << 60,
-        (1 << 29) - 1,
-        (1 << 29) - 1,
+        (1 << 47) - 1,
+        (1 << 47) - 1,
         0,
     ];
     for (word, allowed) in free.iter().enumerate() {

@@ -212,7 +212,20 @@ mod tests {
         assert_eq!(coverage.calls, 20_000);
     }
 
-    /// A page that the rule of U opens where it must bar, or the other way round, fails the run.
+    /// A mark with the word that it must not have: a page opened or barred, an edge passed or not, a
+    /// field accepted or refused the wrong way round.
+    fn wrong_word(mark: Mark) -> Option<Mark> {
+        match mark {
+            Mark::User(walk, mut look) => {
+                look.open = !look.open;
+                Some(Mark::User(walk, look))
+            }
+            Mark::Edge(walk, mode, edge, passed) => Some(Mark::Edge(walk, mode, edge, !passed)),
+            Mark::Field(field, accepted) => Some(Mark::Field(field, !accepted)),
+            _ => None,
+        }
+    }
+
     #[test]
     fn a_wrong_word_is_unexpected() {
         let whole = Coverage {
@@ -220,16 +233,26 @@ mod tests {
             ..Coverage::default()
         };
         assert!(whole.holds());
-        for mark in Mark::all() {
-            let Mark::User(walk, mut look) = mark else {
-                continue;
-            };
-            look.open = !look.open;
-            let wrong = Mark::User(walk, look);
+        let wrong: Vec<Mark> = Mark::all().into_iter().filter_map(wrong_word).collect();
+        // The rule of U has 42 rows, the schemes' edges 26, the fields 64, 16 and 130.
+        assert_eq!(wrong.len(), 42 + 26 + 64 + 16 + 130);
+        for mark in wrong {
             let mut coverage = whole.clone();
-            coverage.marks.insert(wrong, 1);
-            assert_eq!(coverage.unexpected(), [wrong]);
+            coverage.marks.insert(mark, 1);
+            assert_eq!(coverage.unexpected(), [mark]);
             assert!(!coverage.holds());
         }
+    }
+
+    /// Every pair of schemes, Bare among them, with every page size of each: (1 + 3 + 4 + 5)^2.
+    #[test]
+    fn every_pair_of_pages_is_a_mark() {
+        let all = Mark::all();
+        let pairs = all.iter().filter(|mark| matches!(mark, Mark::Passed(..)));
+        assert_eq!(pairs.count(), 13 * 13);
+        let mut single = all.clone();
+        single.sort_unstable();
+        single.dedup();
+        assert_eq!(single.len(), all.len());
     }
 }

@@ -50,6 +50,14 @@ fn one_bit(random: &mut Random, low: u64, high: u64) -> u64 {
     1 << random.between(low, high)
 }
 
+/// A page number beyond the limit of Sv39x4 or of Sv48x4, at times the first one.
+fn beyond(random: &mut Random, page_number: u64) -> u64 {
+    match random.below(2) {
+        0 => random.pick(&[1 << 29, 1 << 38]),
+        _ => (page_number % (1 << 44)) | one_bit(random, 29, 43),
+    }
+}
+
 /// A field of a doubleword replaced.
 fn with_field(value: u64, low: u32, width: u32, field: u64) -> u64 {
     let kept = !(((1 << width) - 1) << low);
@@ -68,20 +76,25 @@ fn pointer_damage(random: &mut Random, entry: u64) -> u64 {
     }
 }
 
-/// One of the eight doublewords of a device context.
-fn context_damage(world: &mut World, address: u64) {
-    let kind = world.random.below(32);
-    let word = match kind {
+/// The doubleword of a device context that a kind of damage is for.
+fn context_word(random: &mut Random, kind: u64) -> u64 {
+    match kind {
         0..=12 => 0,
         13..=16 => 1,
         17..=18 => 2,
-        19..=23 => 3,
+        19..=23 | 31 | 32 => 3,
         24..=27 => 4,
         28 => 5,
         29 => 6,
         30 => 7,
-        _ => world.random.below(8),
-    };
+        _ => random.below(8),
+    }
+}
+
+/// One of the eight doublewords of a device context.
+fn context_damage(world: &mut World, address: u64) {
+    let kind = world.random.below(34);
+    let word = context_word(&mut world.random, kind);
     let random = &mut world.random;
     let place = address + word * 8;
     let value = world.layout.get(place);
@@ -99,15 +112,15 @@ fn context_damage(world: &mut World, address: u64) {
         17 => value | one_bit(random, 0, 11),
         18 => value | one_bit(random, 32, 63),
         19 => value | one_bit(random, 44, 59),
-        20 => with_field(value, 60, 4, random.below(16)),
-        21 => value | one_bit(random, 29, 43),
+        20 | 31 | 32 => with_field(value, 60, 4, random.below(16)),
+        21 => with_field(value, 0, 44, beyond(random, value)),
         22 => with_field(value, 0, 44, random.of_width(44)),
         23 => with_field(value, 60, 4, random.below(4)),
         24 => value | one_bit(random, 44, 59),
         25 => with_field(value, 60, 4, random.below(16)),
         26 => value ^ one_bit(random, 0, 4),
         27 => with_field(value, 0, 44, random.of_width(44)),
-        28 | 29 => value | one_bit(random, 29, 63),
+        28 | 29 => value | one_bit(random, 47, 63),
         30 => value | one_bit(random, 0, 63),
         _ => value ^ one_bit(random, 0, 63),
     };
@@ -116,7 +129,7 @@ fn context_damage(world: &mut World, address: u64) {
 
 /// One of the two doublewords of a process context.
 fn process_damage(world: &mut World, address: u64) {
-    let kind = world.random.below(11);
+    let kind = world.random.below(13);
     let place = address + 8 * u64::from(kind >= 6);
     let random = &mut world.random;
     let value = world.layout.get(place);
@@ -128,8 +141,8 @@ fn process_damage(world: &mut World, address: u64) {
         4 => value | one_bit(random, 32, 63),
         5 => value ^ one_bit(random, 0, 63),
         6 => value | one_bit(random, 44, 59),
-        7 => with_field(value, 60, 4, random.below(16)),
-        8 => value | one_bit(random, 29, 43),
+        7 | 11 | 12 => with_field(value, 60, 4, random.below(16)),
+        8 => with_field(value, 0, 44, beyond(random, value)),
         9 => with_field(value, 0, 44, random.of_width(44)),
         _ => value ^ one_bit(random, 0, 63),
     };
@@ -139,24 +152,25 @@ fn process_damage(world: &mut World, address: u64) {
 /// A page-table entry.
 fn page_entry_damage(random: &mut Random, entry: u64, level: u64) -> u64 {
     let is_leaf = entry & 0xE != 0;
-    match random.below(if is_leaf { 16 } else { 9 }) {
+    match random.below(if is_leaf { 18 } else { 9 }) {
         0 => entry & !1,
         1 => entry & !2 | 4,
         2 => entry | one_bit(random, 54, 63),
         3 => with_field(entry, 10, 44, random.of_width(44)),
         4 => entry ^ one_bit(random, 0, 63),
-        5 => entry | one_bit(random, 39, 53),
+        5 => with_field(entry, 10, 44, beyond(random, entry >> 10)),
         6..=8 if !is_leaf => entry | random.pick(&[1 << 4, 1 << 6, 1 << 7]),
         // A leaf becomes a pointer.
         6 => entry & !0xDE,
         7 => entry & !0xE,
-        8 | 9 => entry | one_bit(random, 10, 9 + 9 * level.max(1)),
         10 => entry & !(1 << 6),
         11 => entry & !(1 << 7),
         12 => entry & !2 & !4 | 8,
         13 => entry & !4,
         14 => entry & !8,
-        _ => entry ^ 1 << 4,
+        15 => entry ^ 1 << 4,
+        // A large page off its alignment.
+        _ => entry | one_bit(random, 10, 9 + 9 * level.max(1)),
     }
 }
 

@@ -1,7 +1,8 @@
 //! Device directory and device context (003, Device-Directory-Table; 01, Directories).
 
-use crate::mark::Point;
-use crate::paging::{FirstStage, Root, SV39, SV39X4};
+use crate::mark::{Field, Point, Setting, Word};
+use crate::paging::{FirstStage, Root};
+use crate::scheme::{self, is_mode, of_mode};
 use crate::task::{first_broken, Task};
 use crate::types::{bit, bits, page_address, Settings, Stage, Step};
 
@@ -36,11 +37,8 @@ impl DeviceContext {
 
     /// The second stage; none where it is Bare.
     pub fn second_stage(&self) -> Option<Root> {
-        if mode(self.iohgatp) == 0 {
-            return None;
-        }
-        Some(Root {
-            scheme: &SV39X4,
+        of_mode(&scheme::SECOND, mode(self.iohgatp)).map(|scheme| Root {
+            scheme,
             table: page_address(page_number(self.iohgatp)),
         })
     }
@@ -64,11 +62,9 @@ pub fn mode(pointer: u64) -> u64 {
 /// The first stage that an fsc with an iosatp names, under a process context's SUM; none where it is
 /// Bare.
 pub fn first_stage(fsc: u64, sum: Option<bool>) -> Option<FirstStage> {
-    if mode(fsc) == 0 {
-        return None;
-    }
+    let scheme = of_mode(&scheme::FIRST, mode(fsc))?;
     let root = Root {
-        scheme: &SV39,
+        scheme,
         table: page_address(page_number(fsc)),
     };
     Some(FirstStage { root, sum })
@@ -171,10 +167,38 @@ fn load_context(task: &mut Task, address: u64) -> Step<DeviceContext> {
         reserved,
     };
     // Step 10.
-    if let Some(point) = misconfigured(&context) {
+    let broken = misconfigured(&context);
+    task.note_fields(&fields(&context), broken);
+    if let Some(point) = broken {
         return task.end(point, 259, Stage::Directory);
     }
     Ok(context)
+}
+
+/// The fields that 02, Req 03, amends, each with the check that refuses it.
+fn fields(context: &DeviceContext) -> [(Field, Point); 5] {
+    let (setting, fsc_point) = match context.pdtv() {
+        true => (Setting::Pdtp, Point::F259PdtpMode),
+        false => (Setting::DeviceFsc, Point::F259FscMode),
+    };
+    let second = mode(context.iohgatp);
+    let quarter = page_number(context.iohgatp) % 4;
+    [
+        (
+            Field::Mode(Setting::Iohgatp, second),
+            Point::F259IohgatpMode,
+        ),
+        (Field::Root(second, quarter), Point::F259IohgatpRoot),
+        (Field::Mode(setting, mode(context.fsc)), fsc_point),
+        (
+            Field::Top(Word::Mask, context.mask.checked_ilog2()),
+            Point::F259MaskReserved,
+        ),
+        (
+            Field::Top(Word::Pattern, context.pattern.checked_ilog2()),
+            Point::F259PatternReserved,
+        ),
+    ]
 }
 
 /// 003, Device-context configuration checks, at the fixed capabilities.
@@ -204,12 +228,13 @@ fn misconfigured_tc(context: &DeviceContext) -> Option<Point> {
     ])
 }
 
-/// Checks 13, 14 and 17: iohgatp is Bare, or Sv39x4 with its root on 16 KiB.
+/// Checks 13, 14 and 17: iohgatp is Bare, or a scheme with its root on 16 KiB.
 fn misconfigured_second_stage(context: &DeviceContext) -> Option<Point> {
     let on = mode(context.iohgatp) != 0;
+    let valid = is_mode(&scheme::SECOND, mode(context.iohgatp));
     let root = page_address(page_number(context.iohgatp));
     first_broken(&[
-        (on && mode(context.iohgatp) != 8, Point::F259IohgatpMode),
+        (!valid, Point::F259IohgatpMode),
         (on && !root.is_multiple_of(16_384), Point::F259IohgatpRoot),
     ])
 }
@@ -217,7 +242,7 @@ fn misconfigured_second_stage(context: &DeviceContext) -> Option<Point> {
 /// Checks 1, 8, 9 and 10: ta and fsc.
 fn misconfigured_first_stage(context: &DeviceContext) -> Option<Point> {
     let fsc_mode = mode(context.fsc);
-    let iosatp = fsc_mode == 0 || fsc_mode == 8;
+    let iosatp = is_mode(&scheme::FIRST, fsc_mode);
     first_broken(&[
         (bits(context.ta, 11, 0) != 0, Point::F259TaLow),
         (bits(context.ta, 63, 32) != 0, Point::F259TaHigh),
@@ -227,6 +252,10 @@ fn misconfigured_first_stage(context: &DeviceContext) -> Option<Point> {
     ])
 }
 
+/// The width of a mask and of a pattern. 003, MSI address mask and pattern: MGPAW is 59 where the
+/// capability Sv57x4 is 1, whichever mode iohgatp has; page numbers are 12 bits narrower.
+const MESSAGE_PAGE_BITS: u32 = 59 - 12;
+
 /// Checks 1 and 16, the rule on msiptp with a Bare second stage, mask, pattern, eighth doubleword.
 fn misconfigured_messages(context: &DeviceContext) -> Option<Point> {
     let second_bare = mode(context.iohgatp) == 0;
@@ -234,9 +263,12 @@ fn misconfigured_messages(context: &DeviceContext) -> Option<Point> {
         (bits(context.msiptp, 59, 44) != 0, Point::F259MsiptpReserved),
         (mode(context.msiptp) > 1, Point::F259MsiptpMode),
         (context.messages_on() && second_bare, Point::F259MsiptpBare),
-        (bits(context.mask, 63, 29) != 0, Point::F259MaskReserved),
         (
-            bits(context.pattern, 63, 29) != 0,
+            context.mask >> MESSAGE_PAGE_BITS != 0,
+            Point::F259MaskReserved,
+        ),
+        (
+            context.pattern >> MESSAGE_PAGE_BITS != 0,
             Point::F259PatternReserved,
         ),
         (context.reserved != 0, Point::F259Eighth),

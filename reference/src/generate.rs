@@ -2,6 +2,7 @@
 
 use crate::damage::damage;
 use crate::random::Random;
+use crate::scheme::{FIRST, SECOND};
 use crate::types::{Access, Request};
 use crate::world::{Target, World};
 
@@ -117,6 +118,12 @@ fn request_call(world: &mut World, stored: &mut Vec<(u64, u64)>) -> Call {
         address: target.address.wrapping_add(page) | offset,
         length,
     };
+    if random.chance(8) {
+        let last = target.span - 1;
+        // The last byte of what is mapped alike, the first beyond it, and the two at its start.
+        let edge = random.pick(&[last, last, last + 1, 0, u64::MAX]);
+        (request.address, request.length) = (target.address.wrapping_add(edge), 1);
+    }
     let data = choose_data(random, &request, target.message, stored);
     let (mut mode, mut root) = (world.mode, world.root);
     if random.chance(8) {
@@ -246,22 +253,19 @@ fn change_request(random: &mut Random, request: &mut Request) {
     }
 }
 
-/// Addresses at the limits of the schemes.
+/// Addresses at the limits of the schemes, and of untranslated ones.
 fn edge_address(random: &mut Random) -> u64 {
-    let edge = random.pick(&[
-        1u64 << 38,
-        1 << 39,
-        1 << 41,
-        1 << 56,
-        1 << 63,
-        0,
-        u64::MAX << 38,
-        u64::MAX << 39,
-    ]);
+    let scheme = match random.chance(50) {
+        true => &FIRST[random.below(3) as usize],
+        false => &SECOND[random.below(3) as usize],
+    };
+    let limit = scheme.limit();
+    let high = limit.wrapping_neg();
+    let edge = random.pick(&[limit, limit, high, high, limit * 2, 1 << 56, 0]);
     match random.below(4) {
         0 => edge,
         1 => edge.wrapping_sub(1),
-        2 => edge.wrapping_add(random.of_width(41)),
+        2 => edge.wrapping_add(random.of_width(50)),
         _ => random.number(),
     }
 }

@@ -2,10 +2,10 @@
 
 use crate::device::{self, DeviceContext};
 use crate::file::{self, FILE_SIZE};
-use crate::mark::{Mark, Point, See, Walk};
+use crate::mark::{Mark, Point, See, Walk, Word};
 use crate::memory::Window;
 use crate::message::{self, MessageEntry};
-use crate::paging::{self, FirstStage, Page, Root};
+use crate::paging::{self, FirstStage, Page};
 use crate::process;
 use crate::task::{first_broken, Task};
 use crate::types::{Answer, Pair, Report, Request, Settings, Stage, Step};
@@ -190,8 +190,7 @@ fn translate_stages(
     if first.is_none() && second.is_none() {
         // D4: no stage translates.
         paging::check_untranslated(task, Point::UntranslatedTooHigh)?;
-        task.note(Point::PassedBare);
-        return Ok(End::Answer(Answer::Translated(address)));
+        return Ok(passed(task, address, None, None));
     }
     // Step 17.
     let page = match &first {
@@ -199,41 +198,30 @@ fn translate_stages(
         None => None,
     };
     let guest = page.map_or(address, |page| page.address);
-    // Step 18.
+    // Step 18 comes before step 19, so that a message's page is recognised whether or not the
+    // second stage's scheme reaches its address.
     if context.messages_on() && is_message(task, context, guest, page) {
         return message_end(task, context, guest, data);
     }
     // Step 19.
     let Some(root) = &second else {
-        task.note(Point::PassedFirst);
         note_by_sum(task, page, Point::PassedFirstBySum);
-        return Ok(End::Answer(Answer::Translated(guest)));
+        return Ok(passed(task, guest, page, None));
     };
     if !context.messages_on() {
         task.note(Point::MessageOff);
     }
     let sum = first.and_then(|first| first.sum);
-    translate_guest(task, root, sum, guest, page)
+    let last = paging::walk_second(task, root, Walk::SecondFinal, sum, guest)?;
+    note_by_sum(task, page, Point::PassedBothBySum);
+    Ok(passed(task, last.address, page, Some(last)))
 }
 
-/// 003, Process to translate an IOVA, steps 19 and 20, where the second stage is on.
-fn translate_guest(
-    task: &mut Task,
-    root: &Root,
-    sum: Option<bool>,
-    guest: u64,
-    first: Option<Page>,
-) -> Step<End> {
-    let page = paging::walk_second(task, root, Walk::SecondFinal, sum, guest)?;
-    match first {
-        Some(first) => {
-            task.note(Point::PassedBoth);
-            (task.see)(Mark::Sizes(first.level, page.level));
-        }
-        None => task.note(Point::PassedSecond),
-    }
-    note_by_sum(task, first, Point::PassedBothBySum);
-    Ok(End::Answer(Answer::Translated(page.address)))
+/// 003, Process to translate an IOVA, step 20: the address, told with the page of each stage.
+fn passed(task: &mut Task, address: u64, first: Option<Page>, second: Option<Page>) -> End {
+    let reached = |page: Page| (page.scheme.mode, page.level);
+    (task.see)(Mark::Passed(first.map(reached), second.map(reached)));
+    End::Answer(Answer::Translated(address))
 }
 
 /// Tells the observer of a supervisor request whose first-stage page has U = 1.
@@ -246,16 +234,13 @@ fn note_by_sum(task: &mut Task, first: Option<Page>, point: Point) {
 /// 003, Process to translate addresses of MSIs, steps 3 and 4.
 fn is_message(task: &mut Task, context: &DeviceContext, guest: u64, first: Option<Page>) -> bool {
     if !message::recognised(guest, context.mask, context.pattern) {
-        task.note(match guest >> 41 {
+        task.note(match guest >> 59 {
             0 => Point::NotRecognised,
             _ => Point::NotRecognisedHigh,
         });
         return false;
     }
-    task.note(match first {
-        Some(_) => Point::RecognisedAfterFirst,
-        None => Point::Recognised,
-    });
+    note_recognised(task, context, guest, first);
     note_by_sum(task, first, Point::RecognisedBySum);
     task.note(match context.mask.count_ones() {
         0 => Point::MaskZero,
@@ -263,6 +248,25 @@ fn is_message(task: &mut Task, context: &DeviceContext, guest: u64, first: Optio
         _ => Point::MaskLarge,
     });
     true
+}
+
+/// Tells the observer of a recognised address: the schemes, whether the second stage's reaches it,
+/// and which of the two words has the highest bit of its page number.
+fn note_recognised(task: &mut Task, context: &DeviceContext, guest: u64, first: Option<Page>) {
+    let second = context.second_stage();
+    let modes = [
+        first.map_or(0, |page| page.scheme.mode),
+        second.map_or(0, |root| root.scheme.mode),
+    ];
+    let beyond = second.is_some_and(|root| !root.scheme.covers(guest));
+    (task.see)(Mark::Recognised(modes[0], modes[1], beyond));
+    if let Some(top) = (guest >> 12).checked_ilog2() {
+        let word = match context.mask >> top & 1 {
+            1 => Word::Mask,
+            _ => Word::Pattern,
+        };
+        (task.see)(Mark::TopBit(word, top));
+    }
 }
 
 /// 01, Messages: what a recognised access becomes.

@@ -21,6 +21,8 @@ pub mod message;
 pub mod paging;
 pub mod process;
 pub mod random;
+pub mod scheme;
+pub mod scheme_check;
 pub mod task;
 pub mod text;
 pub mod types;

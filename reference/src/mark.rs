@@ -1,5 +1,6 @@
 //! Marks: the names of the sub-checks and outcomes that a call passes, for coverage.
 
+use crate::scheme::{self, of_mode, page_bits, Scheme};
 use crate::types::{Access, Stage};
 
 macro_rules! named {
@@ -41,8 +42,7 @@ named!(
         NonLeafDirty = "non-leaf with D",
         NonLeafUser = "non-leaf with U",
         NonLeafAtLast = "non-leaf at the last level",
-        MisalignedLevel1 = "misaligned 2 MiB page",
-        MisalignedLevel2 = "misaligned 1 GiB page",
+        Misaligned = "misaligned large page",
         UserNeedsUser = "user request, U = 0",
         SupervisorWithoutSum = "supervisor request, U = 1, SUM = 0",
         SupervisorExecutes = "supervisor reads for execute, U = 1, SUM = 1",
@@ -115,8 +115,8 @@ named!(
         F259MsiptpReserved = "259 msiptp bits 59:44",
         F259MsiptpMode = "259 msiptp mode",
         F259MsiptpBare = "259 msiptp on, second stage Bare",
-        F259MaskReserved = "259 mask bit 29 or above",
-        F259PatternReserved = "259 pattern bit 29 or above",
+        F259MaskReserved = "259 mask bit 47 or above",
+        F259PatternReserved = "259 pattern bit 47 or above",
         F259Eighth = "259 eighth doubleword",
         F260OneLevelDdi1 = "260 one level, DDI[1]",
         F260OneLevelDdi2 = "260 one level, DDI[2]",
@@ -150,9 +150,7 @@ named!(
         F267FscMode = "267 fsc mode",
         MessageOff = "msiptp Off, second stage on",
         NotRecognised = "msiptp on, address not recognised",
-        NotRecognisedHigh = "msiptp on, address of 2^41 or more",
-        Recognised = "recognised, first stage Bare",
-        RecognisedAfterFirst = "recognised after the first stage",
+        NotRecognisedHigh = "msiptp on, address of 2^59 or more",
         RecognisedBySum = "recognised after the first stage, by SUM",
         MaskZero = "recognised, mask without ones",
         MaskSmall = "recognised, 1 to 8 ones in the mask",
@@ -161,7 +159,7 @@ named!(
         PackedOneRun = "packed, ones in one run",
         PackedFewRuns = "packed, ones in 2 to 7 runs",
         PackedManyRuns = "packed, ones in 8 runs or more",
-        PackedAll = "packed, all 29 ones",
+        PackedAll = "packed, all 47 ones",
         F261 = "261 load",
         F262 = "262 V = 0",
         F263Table = "263 table misaligned, more than 8 ones",
@@ -193,14 +191,93 @@ named!(
         TakeOfOne = "take of 1",
         TakeOfZero = "take of 0",
         ReportMade = "report made",
-        PassedBare = "translated, both stages Bare",
-        PassedFirst = "translated, first stage only",
         PassedFirstBySum = "translated, first stage only, by SUM",
-        PassedSecond = "translated, second stage only",
-        PassedBoth = "translated, both stages",
         PassedBothBySum = "translated, both stages, by SUM",
     }
 );
+
+named!(
+    /// The edges of a scheme's addresses: those that begin at 0, and those that end at 2^64 - 1 where
+    /// a scheme has a sign.
+    Edge {
+        LastLow = "last of the low addresses",
+        FirstAbove = "first above the low addresses",
+        LastBelow = "last below the high addresses",
+        FirstHigh = "first of the high addresses",
+    }
+);
+
+named!(
+    /// A field that holds a mode.
+    Setting {
+        Iohgatp = "iohgatp",
+        DeviceFsc = "fsc of a device context, PDTV = 0",
+        Pdtp = "fsc of a device context, PDTV = 1",
+        ProcessFsc = "fsc of a process context",
+    }
+);
+
+named!(
+    /// The two words by which messages are recognised.
+    Word {
+        Mask = "mask",
+        Pattern = "pattern",
+    }
+);
+
+/// A field of a context, as a check of its bits sees it.
+#[derive(Clone, Copy, Debug, PartialEq, Eq, PartialOrd, Ord)]
+pub enum Field {
+    /// A mode.
+    Mode(Setting, u64),
+    /// The second stage's mode, and its root's page number modulo 4.
+    Root(u64, u64),
+    /// The highest one of a word; none where it is zero.
+    Top(Word, Option<u32>),
+}
+
+impl Field {
+    /// Every value that a check tells apart.
+    fn all() -> Vec<Field> {
+        let mut fields = Vec::new();
+        for &setting in Setting::ALL {
+            fields.extend((0..16).map(|mode| Field::Mode(setting, mode)));
+        }
+        for mode in [0, 8, 9, 10] {
+            fields.extend((0..4).map(|quarter| Field::Root(mode, quarter)));
+        }
+        for &word in Word::ALL {
+            fields.push(Field::Top(word, None));
+            fields.extend((0..64).map(|top| Field::Top(word, Some(top))));
+        }
+        fields
+    }
+
+    /// The word that the checks must have for it (003, Tables 1 and 3, MGPAW; 01; 02, Req 03).
+    fn accepted(self) -> bool {
+        match self {
+            Field::Mode(Setting::Pdtp, mode) => mode <= 3,
+            Field::Mode(_, mode) => [0, 8, 9, 10].contains(&mode),
+            Field::Root(mode, quarter) => mode == 0 || quarter == 0,
+            Field::Top(_, top) => top.is_none_or(|top| top <= 46),
+        }
+    }
+
+    fn name(self) -> String {
+        match self {
+            Field::Mode(setting, mode) => format!("{}: mode {mode}", setting.name()),
+            Field::Root(mode, quarter) => {
+                let scheme = scheme_name(&scheme::SECOND, mode);
+                format!("{scheme}: root page number {quarter} modulo 4")
+            }
+            Field::Top(word, Some(top)) => format!("{}: highest one at bit {top}", word.name()),
+            Field::Top(word, None) => format!("{}: no ones", word.name()),
+        }
+    }
+}
+
+/// The mode of a stage's scheme and the level of the page that it reached; none where it is Bare.
+pub type Reached = Option<(u64, u64)>;
 
 /// One look at the U bit of a leaf: what the rule of U goes by, and whether the page is open by it.
 #[derive(Clone, Copy, Debug, PartialEq, Eq, PartialOrd, Ord)]
@@ -247,10 +324,21 @@ pub enum Mark {
     PageFault(Walk, Access),
     /// A walk's access violation under an original access.
     Violation(Walk, Access),
-    /// A walk that reached a page at this level: 0 is 4 KiB, 1 is 2 MiB, 2 is 1 GiB.
-    Size(Walk, u64),
-    /// The levels of the first-stage page and of the second-stage page of one translation.
-    Sizes(u64, u64),
+    /// A walk that reached a page: the mode of its scheme, and the level.
+    Size(Walk, u64, u64),
+    /// A walk that met a misaligned large page: the mode of its scheme, and the level.
+    Misaligned(Walk, u64, u64),
+    /// A walk at an edge of its scheme's addresses, by its mode, and whether it passed.
+    Edge(Walk, u64, Edge, bool),
+    /// A field of a context, and whether the checks accepted it.
+    Field(Field, bool),
+    /// A translation, by the page of the first stage and that of the second stage.
+    Passed(Reached, Reached),
+    /// A recognised address: the modes of both stages, and whether it is beyond the second one's
+    /// limit.
+    Recognised(u64, u64, bool),
+    /// The highest one of a recognised page number, and the word that it stands in.
+    TopBit(Word, u32),
     /// A cause, and the stage that found it.
     Cause(Stage, u64),
 }
@@ -294,18 +382,18 @@ const USER_RULE: [UserRow; 14] = [
     (Walk::SecondForFirst, true, Some(true), true, OPEN),
 ];
 
-const SIZES: [&str; 3] = ["4 KiB", "2 MiB", "1 GiB"];
+const SIZES: [&str; 5] = ["4 KiB", "2 MiB", "1 GiB", "512 GiB", "256 TiB"];
 
 /// Whether a walk can end by this reason.
 pub fn can_arise(walk: Walk, reason: EntryFault) -> bool {
     let first = walk == Walk::First;
     match reason {
-        // Sv39's rule, and the rules of U by privilege and SUM, are the first stage's.
+        // The sign rule, and the rules of U by privilege and SUM, are the first stage's.
         EntryFault::Sign
         | EntryFault::UserNeedsUser
         | EntryFault::SupervisorWithoutSum
         | EntryFault::SupervisorExecutes => first,
-        // Sv39x4's limit and its U rule are the second stage's.
+        // The guest limit and its U rule are the second stage's.
         EntryFault::Limit | EntryFault::SecondNeedsUser => !first,
         // An implicit access is a read (D7).
         EntryFault::NoWrite | EntryFault::NoExecute | EntryFault::NotDirty => {
@@ -333,6 +421,94 @@ fn user_marks() -> Vec<Mark> {
     marks
 }
 
+/// The schemes that a walk may go by.
+fn schemes_of(walk: Walk) -> &'static [Scheme; 3] {
+    match walk {
+        Walk::First => &scheme::FIRST,
+        _ => &scheme::SECOND,
+    }
+}
+
+/// The name of a mode's scheme.
+fn scheme_name(schemes: &'static [Scheme; 3], mode: u64) -> &'static str {
+    of_mode(schemes, mode).map_or("Bare", |scheme| scheme.name)
+}
+
+/// The pages that a stage may end in, Bare among them.
+fn pages(schemes: &'static [Scheme; 3]) -> Vec<Reached> {
+    let mut pages = vec![None];
+    for scheme in schemes {
+        pages.extend((0..scheme.levels).map(|level| Some((scheme.mode, level))));
+    }
+    pages
+}
+
+/// Every walk with every page of its schemes, and every large page misaligned.
+fn page_marks() -> Vec<Mark> {
+    let mut marks = Vec::new();
+    for &walk in Walk::ALL {
+        for (mode, level) in pages(schemes_of(walk)).into_iter().flatten() {
+            marks.push(Mark::Size(walk, mode, level));
+        }
+    }
+    for &walk in Walk::ALL {
+        for (mode, level) in pages(schemes_of(walk)).into_iter().flatten() {
+            if level > 0 {
+                marks.push(Mark::Misaligned(walk, mode, level));
+            }
+        }
+    }
+    marks
+}
+
+/// The edges of each walk's schemes, each with the word that it must have.
+fn edge_marks() -> Vec<Mark> {
+    let mut marks = Vec::new();
+    for &walk in Walk::ALL {
+        // Tables are named by page numbers of 44 bits, so that an entry's address stays below 2^56.
+        let implicit = matches!(walk, Walk::SecondForFirst | Walk::SecondForProcess);
+        for scheme in schemes_of(walk) {
+            for &edge in Edge::ALL {
+                let high = matches!(edge, Edge::LastBelow | Edge::FirstHigh);
+                let legal = matches!(edge, Edge::LastLow | Edge::FirstHigh);
+                let reached = !implicit || scheme.address_bits < 56;
+                if reached && (scheme.signed || !high) {
+                    marks.push(Mark::Edge(walk, scheme.mode, edge, legal));
+                }
+            }
+        }
+    }
+    marks
+}
+
+/// Recognised addresses: every pair of schemes, and every bit of a page number.
+fn message_marks() -> Vec<Mark> {
+    let mut marks = Vec::new();
+    for first in [0, 8, 9, 10] {
+        for second in &scheme::SECOND {
+            marks.push(Mark::Recognised(first, second.mode, false));
+            // Nothing that a pattern of 47 bits recognises is beyond 59 bits.
+            if second.address_bits < 59 {
+                marks.push(Mark::Recognised(first, second.mode, true));
+            }
+        }
+    }
+    for &word in Word::ALL {
+        marks.extend((0..47).map(|top| Mark::TopBit(word, top)));
+    }
+    marks
+}
+
+/// Every pair of pages that the two stages of a translation may end in.
+fn passed_marks() -> Vec<Mark> {
+    let mut marks = Vec::new();
+    for first in pages(&scheme::FIRST) {
+        let seconds = pages(&scheme::SECOND).into_iter();
+        marks.extend(seconds.map(|second| Mark::Passed(first, second)));
+    }
+    marks
+}
+
 impl Mark {
     /// Every mark that can arise, in the order of the table.
     pub fn all() -> Vec<Mark> {
@@ -349,12 +525,12 @@ impl Mark {
             marks.extend(Access::ALL.map(|access| Mark::PageFault(walk, access)));
             marks.extend(Access::ALL.map(|access| Mark::Violation(walk, access)));
         }
-        for &walk in Walk::ALL {
-            marks.extend([0, 1, 2].map(|level| Mark::Size(walk, level)));
-        }
-        for first in 0..3 {
-            marks.extend([0, 1, 2].map(|second| Mark::Sizes(first, second)));
-        }
+        let fields = Field::all().into_iter();
+        marks.extend(fields.map(|field| Mark::Field(field, field.accepted())));
+        marks.append(&mut edge_marks());
+        marks.append(&mut page_marks());
+        marks.append(&mut message_marks());
+        marks.append(&mut passed_marks());
         for (stage, causes) in CAUSES {
             marks.extend(causes.iter().map(|cause| Mark::Cause(stage, *cause)));
         }
@@ -372,8 +548,14 @@ impl Mark {
             },
             Mark::User(..) => "rule of U, second stage under SUM = 1",
             Mark::PageFault(..) | Mark::Violation(..) => "walk faults by original access",
+            Mark::Field(Field::Mode(..), _) => "modes of contexts",
+            Mark::Field(Field::Root(..), _) => "roots of second stages",
+            Mark::Field(Field::Top(..), _) => "mask and pattern of contexts",
+            Mark::Edge(..) => "edges of the schemes",
             Mark::Size(..) => "page sizes reached",
-            Mark::Sizes(..) => "page sizes, first stage and second stage",
+            Mark::Misaligned(..) => "misaligned large pages",
+            Mark::Recognised(..) | Mark::TopBit(..) => "recognised addresses",
+            Mark::Passed(..) => "translated, by the page of each stage",
             Mark::Cause(..) => "cause by stage",
         }
     }
@@ -391,16 +573,46 @@ impl Mark {
             Mark::Violation(walk, access) => {
                 format!("{}: access violation, {}", walk.name(), access.name())
             }
-            Mark::Size(walk, level) => format!("{}: {}", walk.name(), size_name(level)),
-            Mark::Sizes(first, second) => {
-                format!("{} and {}", size_name(first), size_name(second))
+            Mark::Size(walk, mode, level) | Mark::Misaligned(walk, mode, level) => {
+                let page = page_name(schemes_of(walk), Some((mode, level)));
+                format!("{}: {page}", walk.name())
+            }
+            Mark::Edge(walk, mode, edge, passed) => {
+                let scheme = scheme_name(schemes_of(walk), mode);
+                let word = if passed { "passed" } else { "fault" };
+                format!("{}: {scheme}, {}: {word}", walk.name(), edge.name())
+            }
+            Mark::Field(field, accepted) => {
+                let word = if accepted { "accepted" } else { "refused" };
+                format!("{}: {word}", field.name())
+            }
+            Mark::Passed(first, second) => {
+                let first = page_name(&scheme::FIRST, first);
+                format!("{first} on {}", page_name(&scheme::SECOND, second))
+            }
+            Mark::Recognised(first, second, beyond) => recognised_name(first, second, beyond),
+            Mark::TopBit(word, top) => {
+                let bit = page_bits(0) + top;
+                format!("highest one at address bit {bit}, in the {}", word.name())
             }
             Mark::Cause(stage, cause) => format!("{}: {cause}", stage.name()),
         }
     }
 }
 
-/// The page size of a level.
-fn size_name(level: u64) -> &'static str {
-    SIZES.get(level as usize).copied().unwrap_or("larger")
+/// The schemes of a recognised address, and its place by the second one's limit.
+fn recognised_name(first: u64, second: u64, beyond: bool) -> String {
+    let first = scheme_name(&scheme::FIRST, first);
+    let second = scheme_name(&scheme::SECOND, second);
+    let place = if beyond { "beyond" } else { "within" };
+    format!("{first} on {second}: {place} the guest limit")
+}
+
+/// The scheme of a stage and the size of its page.
+fn page_name(schemes: &'static [Scheme; 3], reached: Reached) -> String {
+    let Some((mode, level)) = reached else {
+        return "Bare".to_string();
+    };
+    let size = SIZES.get(level as usize).unwrap_or(&"larger");
+    format!("{} {size}", scheme_name(schemes, mode))
 }

@@ -42,7 +42,7 @@ fn packed(mask: u64) -> Point {
         (0..64).filter(|place| bit(mask, *place) && (*place == 63 || !bit(mask, *place + 1)));
     match (runs.count(), mask.count_ones()) {
         (0, _) => Point::PackedNone,
-        (1, 29) => Point::PackedAll,
+        (1, 47) => Point::PackedAll,
         (1, _) => Point::PackedOneRun,
         (2..=7, _) => Point::PackedFewRuns,
         _ => Point::PackedManyRuns,

@@ -1,63 +1,10 @@
 //! The page-table walk of both stages (Priv, address-translation process; 01, The two walks).
 
-use crate::mark::{EntryFault, Mark, Point, UserBit, Walk};
+use crate::mark::{Edge, EntryFault, Mark, Point, UserBit, Walk};
+use crate::scheme::{page_bits, Scheme};
 use crate::task::Task;
 use crate::types::{access_fault, bit, bits, fault, guest_page_fault, page_address, page_fault};
 use crate::types::{Access, Answer, Request, Stage, Step};
-
-/// A page-table scheme: its level count, index widths and address width.
-#[derive(Debug, PartialEq, Eq)]
-pub struct Scheme {
-    pub levels: u64,
-    pub index_bits: u32,
-    pub root_index_bits: u32,
-    pub address_bits: u32,
-    /// The bits above the address width repeat its highest bit; else they are zero.
-    pub signed: bool,
-}
-
-pub const SV39: Scheme = Scheme {
-    levels: 3,
-    index_bits: 9,
-    root_index_bits: 9,
-    address_bits: 39,
-    signed: true,
-};
-
-pub const SV39X4: Scheme = Scheme {
-    levels: 3,
-    index_bits: 9,
-    root_index_bits: 11,
-    address_bits: 41,
-    signed: false,
-};
-
-impl Scheme {
-    /// 01, The two walks: the sign rule of the first stage, the limit of the second.
-    pub fn covers(&self, address: u64) -> bool {
-        if !self.signed {
-            return address >> self.address_bits == 0;
-        }
-        let above = address >> (self.address_bits - 1);
-        above == 0 || above == u64::MAX >> (self.address_bits - 1)
-    }
-
-    /// The index of an address at a level; the root's may be wider.
-    pub fn index(&self, address: u64, level: u64) -> u64 {
-        let width = if level == self.levels - 1 {
-            self.root_index_bits
-        } else {
-            self.index_bits
-        };
-        let low = page_bits(self, level);
-        bits(address, low + width - 1, low)
-    }
-}
-
-/// The width of the offset within a page of a level: 12, 21, 30, ..
-fn page_bits(scheme: &Scheme, level: u64) -> u32 {
-    12 + scheme.index_bits * level as u32
-}
 
 /// The root of one stage's tables.
 #[derive(Clone, Copy, Debug, PartialEq, Eq)]
@@ -78,6 +25,7 @@ pub struct FirstStage {
 #[derive(Clone, Copy, Debug, PartialEq, Eq)]
 pub struct Page {
     pub address: u64,
+    pub scheme: &'static Scheme,
     pub level: u64,
     /// U of the leaf.
     pub user: bool,
@@ -140,6 +88,7 @@ pub fn walk_second(
 fn walk(task: &mut Task, walker: &Walker, address: u64) -> Step<Page> {
     let scheme = walker.root.scheme;
     if !scheme.covers(address) {
+        note_edge(task, walker, address, false);
         let rule = if scheme.signed {
             EntryFault::Sign
         } else {
@@ -159,7 +108,8 @@ fn walk(task: &mut Task, walker: &Walker, address: u64) -> Step<Page> {
         // Step 4: with R or X it is a leaf.
         if bit(entry, 1) || bit(entry, 3) {
             check_leaf(task, walker, entry, level)?;
-            (task.see)(Mark::Size(walker.walk, level));
+            (task.see)(Mark::Size(walker.walk, scheme.mode, level));
+            note_edge(task, walker, address, true);
             return Ok(page(scheme, level, entry, address));
         }
         check_non_leaf(task, walker.walk, entry)?;
@@ -167,6 +117,30 @@ fn walk(task: &mut Task, walker: &Walker, address: u64) -> Step<Page> {
     }
     // Step 4: a pointer at the last level.
     Err(page_fault_of(task, walker.walk, EntryFault::NonLeafAtLast))
+}
+
+/// Tells the observer of a walk at an edge of its scheme's addresses, and whether it passed.
+fn note_edge(task: &mut Task, walker: &Walker, address: u64, passed: bool) {
+    let scheme = walker.root.scheme;
+    // Directory entries and page-table entries are read at multiples of their size.
+    let within = match walker.walk {
+        Walk::First | Walk::SecondFinal => 0,
+        Walk::SecondForFirst => 7,
+        Walk::SecondForProcess => 15,
+    };
+    let limit = scheme.limit();
+    let high = limit.wrapping_neg();
+    let edges = [
+        (address == limit, Edge::FirstAbove),
+        (address | within == limit - 1, Edge::LastLow),
+        (scheme.signed && address == high, Edge::FirstHigh),
+        (scheme.signed && address == high - 1, Edge::LastBelow),
+    ];
+    for (holds, edge) in edges {
+        if holds {
+            (task.see)(Mark::Edge(walker.walk, scheme.mode, edge, passed));
+        }
+    }
 }
 
 /// Step 2: the load of one entry; under the second stage its address is translated first.
@@ -206,13 +180,12 @@ fn check_non_leaf(task: &mut Task, walk: Walk, entry: u64) -> Step<()> {
 
 /// Steps 5 to 7: alignment of a large page, U, permission, A and D.
 fn check_leaf(task: &mut Task, walker: &Walker, entry: u64, level: u64) -> Step<()> {
-    let low = bits(entry, 53, 10) % (1 << (page_bits(walker.root.scheme, level) - 12));
-    let misaligned = if level == 1 {
-        EntryFault::MisalignedLevel1
-    } else {
-        EntryFault::MisalignedLevel2
-    };
-    end_if_any(task, walker.walk, &[(low != 0, misaligned)])?;
+    // 01, The two walks: the low page number of a large page is zero, at every level.
+    if !bits(entry, 53, 10).is_multiple_of(1 << (page_bits(level) - 12)) {
+        let scheme = walker.root.scheme;
+        (task.see)(Mark::Misaligned(walker.walk, scheme.mode, level));
+        return Err(page_fault_of(task, walker.walk, EntryFault::Misaligned));
+    }
     check_user(task, walker, bit(entry, 4))?;
     check_permissions(task, walker.walk, entry)
 }
@@ -280,10 +253,11 @@ fn check_permissions(task: &mut Task, walk: Walk, entry: u64) -> Step<()> {
 }
 
 /// Step 8: the page number of the entry, with the address's own bits below the page's size.
-fn page(scheme: &Scheme, level: u64, entry: u64, address: u64) -> Page {
-    let offset = bits(address, page_bits(scheme, level) - 1, 0);
+fn page(scheme: &'static Scheme, level: u64, entry: u64, address: u64) -> Page {
+    let offset = bits(address, page_bits(level) - 1, 0);
     Page {
         address: page_address(bits(entry, 53, 10)) | offset,
+        scheme,
         level,
         user: bit(entry, 4),
     }

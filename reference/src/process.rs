@@ -1,8 +1,9 @@
 //! Process directory and process context (003, Process-Directory-Table; 01, Directories).
 
 use crate::device::{mode, page_number, DeviceContext};
-use crate::mark::{Point, Walk};
+use crate::mark::{Field, Point, Setting, Walk};
 use crate::paging;
+use crate::scheme::{self, is_mode};
 use crate::task::{first_broken, Task};
 use crate::types::{bit, bits, page_address, Stage, Step};
 
@@ -126,7 +127,10 @@ fn load_context(task: &mut Task, address: u64) -> Step<ProcessContext> {
     };
     let context = ProcessContext { ta, fsc };
     // Step 12.
-    if let Some(point) = misconfigured(&context) {
+    let broken = misconfigured(&context);
+    let field = Field::Mode(Setting::ProcessFsc, mode(fsc));
+    task.note_fields(&[(field, Point::F267FscMode)], broken);
+    if let Some(point) = broken {
         return task.end(point, 267, Stage::ProcessDirectory);
     }
     Ok(context)
@@ -134,13 +138,13 @@ fn load_context(task: &mut Task, address: u64) -> Step<ProcessContext> {
 
 /// 003, Process-context configuration checks, at the fixed capabilities.
 pub fn misconfigured(context: &ProcessContext) -> Option<Point> {
-    let fsc_mode = mode(context.fsc);
+    let valid = is_mode(&scheme::FIRST, mode(context.fsc));
     first_broken(&[
         // Check 1.
         (bits(context.ta, 11, 3) != 0, Point::F267TaLow),
         (bits(context.ta, 63, 32) != 0, Point::F267TaHigh),
         (bits(context.fsc, 59, 44) != 0, Point::F267FscReserved),
         // Checks 2 and 3.
-        (fsc_mode != 0 && fsc_mode != 8, Point::F267FscMode),
+        (!valid, Point::F267FscMode),
     ])
 }

@@ -1,6 +1,6 @@
 //! What every step of one request works on.
 
-use crate::mark::{Mark, Point, See};
+use crate::mark::{Field, Mark, Point, See};
 use crate::memory::Window;
 use crate::types::{fault, Request, Stage, Step};
 
@@ -14,6 +14,16 @@ impl Task<'_> {
     /// Tells the observer of a mark that stands alone.
     pub fn note(&mut self, point: Point) {
         (self.see)(Mark::Point(point));
+    }
+
+    /// Tells the observer of fields: accepted where nothing of their context is broken, refused
+    /// where the broken check is the field's own.
+    pub fn note_fields(&mut self, fields: &[(Field, Point)], broken: Option<Point>) {
+        for (field, check) in fields {
+            if broken.is_none() || broken == Some(*check) {
+                (self.see)(Mark::Field(*field, broken.is_none()));
+            }
+        }
     }
 
     /// Ends the step with a fault, and tells the observer which check gave it.

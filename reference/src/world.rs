@@ -1,8 +1,9 @@
 //! Valid tables for the generator: directories, contexts, page tables, message tables and files.
 
 use crate::layout::{leaf, pointer, root_of, Layout, ALL_FLAGS};
-use crate::paging::{Scheme, SV39, SV39X4};
+use crate::paging::Root;
 use crate::random::Random;
+use crate::scheme::{size, Scheme, FIRST, SECOND};
 
 /// A table entry that the list's requests may pass, for the damages.
 #[derive(Clone, Copy, Debug)]
@@ -18,7 +19,7 @@ pub enum Place {
 /// A second stage: its root, and how the window's own pages are mapped for tables.
 #[derive(Clone, Copy, Debug)]
 pub struct Space {
-    pub root: u64,
+    pub root: Root,
     pub table_level: u64,
     pub table_base: u64,
 }
@@ -58,10 +59,11 @@ pub struct World {
     high_ids: [u64; 2],
 }
 
-/// The size of a page of a level.
-pub fn size(level: u64) -> u64 {
-    4_096 << (9 * level)
-}
+/// The bits of a mask and of a pattern that may be used.
+const MESSAGE_BITS: u64 = 47;
+
+/// Tables, and pages that a first stage maps, are named by page numbers of 44 bits.
+const NAMED: u64 = 1 << 56;
 
 fn align_down(address: u64, alignment: u64) -> u64 {
     address - address % alignment
@@ -179,20 +181,42 @@ impl World {
 
     /// A second stage with its root.
     fn add_space(&mut self) -> Option<Space> {
-        let root = self.second_stage_root()?;
-        let table_level = self.random.below(3);
-        let top = self.random.pick(&[0, 1, 3, 511, 512, 2_044, 2_046]);
-        let middle = self.random.pick(&[0, 1, 510]);
-        let table_base = match table_level {
-            0 => top * size(2) + middle * size(1),
-            1 => top * size(2) + middle.min(500) * size(1),
-            _ => top.min(2_046) * size(2),
-        };
+        let table = self.second_stage_root()?;
+        let scheme = &SECOND[self.random.below(3) as usize];
+        let table_level = self.random.below(scheme.levels);
         Some(Space {
-            root,
+            root: Root { scheme, table },
             table_level,
-            table_base,
+            table_base: self.table_base(scheme, table_level),
         })
+    }
+
+    /// The guest address from which on pages of a level map the window; at times it ends at the
+    /// scheme's limit.
+    fn table_base(&mut self, scheme: &Scheme, level: u64) -> u64 {
+        let start = self.layout.start;
+        let end = start + self.layout.bytes.len() as u64;
+        let span = end - align_down(start, size(level));
+        let limit = scheme.limit().min(NAMED);
+        let last = align_down(limit - span, size(level));
+        if self.random.chance(30) {
+            return last;
+        }
+        let max = limit / size(scheme.levels - 1) - 1;
+        let tops = [0, 0, 1, 3, max / 4, max / 4 + 1, max];
+        self.pick_address(scheme, &tops, level.max(1)).min(last)
+    }
+
+    /// An address of a page of a level: its root index is one of these, and each index below it is
+    /// at an edge of its table or near one.
+    fn pick_address(&mut self, scheme: &Scheme, tops: &[u64], level: u64) -> u64 {
+        let root = scheme.levels - 1;
+        let mut address = self.random.pick(tops) * size(root);
+        for at in level..root {
+            let second = if at == 0 { 9 } else { 1 };
+            address += self.random.pick(&[0, second, 511]) * size(at);
+        }
+        address
     }
 
     /// The guest address at which a page of the window is mapped for tables; where the leaf is for
@@ -206,14 +230,7 @@ impl World {
             flags &= !0x10;
         }
         let (from, to) = (align_down(guest, unit), align_down(page, unit));
-        self.map(
-            &SV39X4,
-            space.root,
-            None,
-            from,
-            space.table_level,
-            leaf(to, flags),
-        );
+        self.map(&space.root, None, from, space.table_level, leaf(to, flags));
         guest
     }
 
@@ -227,17 +244,16 @@ impl World {
     /// stays. Says whether the entry put, or an equal one, stands.
     pub fn map(
         &mut self,
-        scheme: &Scheme,
-        root: u64,
+        root: &Root,
         space: Option<&Space>,
         address: u64,
         level: u64,
         entry: u64,
     ) -> bool {
-        let mut table = root;
-        let mut at = scheme.levels - 1;
+        let mut table = root.table;
+        let mut at = root.scheme.levels - 1;
         loop {
-            let place = table + scheme.index(address, at) * 8;
+            let place = table + root.scheme.index(address, at) * 8;
             let present = self.layout.get(place);
             if at == level {
                 if present == 0 {
@@ -299,7 +315,8 @@ impl World {
         };
         let mut words = self.context_noise();
         if let Some(space) = space {
-            words[1] = root_of(8, space.root) | self.random.of_width(16) << 44;
+            let root = root_of(space.root.scheme.mode, space.root.table);
+            words[1] = root | self.random.of_width(16) << 44;
         }
         if let Some(messages) = messages {
             words[4] = root_of(1, messages.table);
@@ -349,8 +366,8 @@ impl World {
         if self.random.chance(30) {
             words[1] = self.random.of_width(60);
             words[4] = self.random.of_width(44);
-            words[5] = self.random.of_width(29);
-            words[6] = self.random.of_width(29);
+            words[5] = self.random.of_width(MESSAGE_BITS as u32);
+            words[6] = self.random.of_width(MESSAGE_BITS as u32);
         }
         words[2] = self.random.of_width(20) << 12;
         words
@@ -452,23 +469,25 @@ impl World {
         self.places.push(Place::ProcessContext(place));
     }
 
-    /// A first stage, Bare or Sv39, with its targets; gives iosatp.
+    /// A first stage, Bare or of any scheme, with its targets; gives iosatp.
     fn add_first_stage(&mut self, device: &DevicePlan, owner: Owner) -> u64 {
-        let root = if self.random.chance(25) {
+        let page = if self.random.chance(25) {
             None
         } else {
             self.page()
         };
+        let scheme = &FIRST[self.random.below(3) as usize];
+        let root = page.map(|table| Root { scheme, table });
         self.add_targets(device, owner, root);
-        let Some(page) = root else {
+        let Some(page) = page else {
             return self.random.of_width(44);
         };
         let user = self.second_user(owner.ens && owner.sum);
-        root_of(8, self.table_name(device, page, user))
+        root_of(scheme.mode, self.table_name(device, page, user))
     }
 
     /// Some targets of one address space.
-    fn add_targets(&mut self, device: &DevicePlan, owner: Owner, first: Option<u64>) {
+    fn add_targets(&mut self, device: &DevicePlan, owner: Owner, first: Option<Root>) {
         for _ in 0..self.random.between(1, 3) {
             let supervisor = owner.ens && self.random.chance(50);
             let message = match device.messages {
@@ -479,13 +498,13 @@ impl World {
                 Some((page, _)) => (page, 4_096),
                 None => {
                     let user = self.second_user(supervisor && owner.sum);
-                    self.add_second_target(device, user)
+                    self.add_second_target(device, user, first.is_some())
                 }
             };
             let (address, span) = match first {
                 Some(root) => {
                     let user = self.first_user(supervisor, owner.sum);
-                    self.add_first_target(device, root, guest, second_span, user)
+                    self.add_first_target(device, &root, guest, second_span, user)
                 }
                 None => (guest, second_span),
             };
@@ -500,26 +519,27 @@ impl World {
         }
     }
 
-    /// A guest address that the second stage maps, or a physical one where it is Bare.
-    fn add_second_target(&mut self, device: &DevicePlan, user: bool) -> (u64, u64) {
+    /// A guest address that the second stage maps, or a physical one where it is Bare; one that a
+    /// first stage can name, where it is for one.
+    fn add_second_target(&mut self, device: &DevicePlan, user: bool, named: bool) -> (u64, u64) {
         let Some(space) = device.space else {
-            let level = self.random.below(3);
+            let level = self.random.below(5);
             let address = align_down(self.random.of_width(56), size(level));
             return (address, size(level));
         };
+        let scheme = space.root.scheme;
+        let limit = scheme.limit().min(if named { NAMED } else { u64::MAX });
+        let max = limit / size(scheme.levels - 1) - 1;
+        let tops = [0, 2, 2, 5, max / 4, max / 4 + 1, max, max];
         let mut found = (0, 4_096);
         // An attempt fails where no page is left, or another page stands in the way.
         for _ in 0..3 {
-            let level = self.random.below(3);
-            let top = self.random.pick(&[0, 2, 2, 5, 511, 512, 2_047, 2_047]);
-            let middle = self.random.pick(&[0, 1, 511]);
-            let low = self.random.pick(&[0, 9, 511]);
-            let guest = top * size(2) + middle * size(1) + low * size(0);
-            let guest = align_down(guest, size(level));
+            let level = self.random.below(scheme.levels);
+            let guest = self.pick_address(scheme, &tops, level);
             let target = align_down(self.random.of_width(56), size(level));
             let entry = leaf(target, self.leaf_flags(user));
             found = (guest, size(level));
-            if self.map(&SV39X4, space.root, None, guest, level, entry) {
+            if self.map(&space.root, None, guest, level, entry) {
                 break;
             }
         }
@@ -530,26 +550,27 @@ impl World {
     fn add_first_target(
         &mut self,
         device: &DevicePlan,
-        root: u64,
+        root: &Root,
         guest: u64,
         second_span: u64,
         user: bool,
     ) -> (u64, u64) {
+        let scheme = root.scheme;
         let mut found = (0, 4_096);
         for _ in 0..3 {
-            let level = self.random.below(3);
+            let level = self.random.below(scheme.levels);
             let own = size(level);
             // Where the first stage's page is the smaller one, it may lie anywhere in the other.
-            let guest = guest + own * self.random.below(second_span / own);
-            let top = self.random.pick(&[0, 1, 255, 255, 256, 511]);
-            let middle = self.random.pick(&[0, 1, 511]);
-            let low = self.random.pick(&[0, 7, 511]);
-            let base = align_down(top * size(2) + middle * size(1) + low * size(0), own);
-            let high = if top >= 256 { u64::MAX << 39 } else { 0 };
-            let flags = self.leaf_flags(user);
-            let entry = leaf(align_down(guest, own), flags);
+            let guest = guest % NAMED + own * self.random.below(second_span / own);
+            let base = self.pick_address(scheme, &[0, 1, 255, 255, 256, 511], level);
+            // The bits above a negative address are ones.
+            let high = match base < scheme.limit() {
+                true => 0,
+                false => u64::MAX << scheme.address_bits,
+            };
+            let entry = leaf(align_down(guest, own), self.leaf_flags(user));
             found = ((base + guest % own) | high, own.min(second_span));
-            if self.map(&SV39, root, device.space.as_ref(), base, level, entry) {
+            if self.map(root, device.space.as_ref(), base, level, entry) {
                 break;
             }
         }
@@ -589,9 +610,11 @@ impl World {
         let page = self.page()?;
         let mask = choose_mask(&mut self.random);
         let alignment = (16u64 << mask.count_ones()).max(4_096);
+        // Mostly within what a first stage can name; at times so low that the mask's bits are above.
+        let width = self.random.pick(&[2, 29, 38, 44, 44, MESSAGE_BITS as u32]);
         Some(Messages {
             mask,
-            pattern: self.random.of_width(29),
+            pattern: self.random.of_width(width),
             table: align_down(page, alignment),
             page,
         })
@@ -661,8 +684,10 @@ fn choose_start(random: &mut Random, pages: u64) -> u64 {
     let page = match random.below(100) {
         0..=14 => 0,
         15..=29 => top,
-        30..=39 => (random.of_width(20) << 18).saturating_sub(random.below(pages + 1)),
-        40..=49 => (random.of_width(29) << 9).saturating_sub(random.below(pages + 1)),
+        30..=49 => {
+            let edge = random.pick(&[9, 9, 18, 18, 27, 36]);
+            (random.of_width(44 - edge) << edge).saturating_sub(random.below(pages + 1))
+        }
         50..=64 => random.of_width(29),
         _ => random.of_width(44),
     };
@@ -671,30 +696,30 @@ fn choose_start(random: &mut Random, pages: u64) -> u64 {
 
 /// A mask: no ones, few, many; dense and spread.
 fn choose_mask(random: &mut Random) -> u64 {
-    let full = (1u64 << 29) - 1;
+    let full = (1u64 << MESSAGE_BITS) - 1;
     match random.below(100) {
         0..=11 => 0,
-        12..=23 => 1 << random.below(29),
-        24..=43 => {
-            let ones = random.between(1, 8);
-            ((1 << ones) - 1) << random.below(29 - ones)
-        }
+        12..=23 => 1 << random.below(MESSAGE_BITS),
+        24..=43 => run_of_ones(random, 1, 8),
         44..=63 => spread(random, 8),
-        64..=79 => {
-            let ones = random.between(9, 16);
-            ((1 << ones) - 1) << random.below(29 - ones)
-        }
+        64..=79 => run_of_ones(random, 9, 16),
         80..=92 => spread(random, 14) | spread(random, 9),
         93..=97 => random.number() & full,
         _ => full,
     }
 }
 
+/// So many ones next to each other, anywhere in a mask.
+fn run_of_ones(random: &mut Random, least: u64, most: u64) -> u64 {
+    let ones = random.between(least, most);
+    ((1 << ones) - 1) << random.below(MESSAGE_BITS + 1 - ones)
+}
+
 /// Some single bits of a mask.
 fn spread(random: &mut Random, bits: u64) -> u64 {
     let mut mask = 0;
     for _ in 0..random.between(2, bits) {
-        mask |= 1 << random.below(29);
+        mask |= 1 << random.below(MESSAGE_BITS);
     }
     mask
 }

@@ -212,6 +212,41 @@ fn supervisor_on_user_pages() {
     }
 }
 
+/// iohgatp or fsc: a mode, and a page of the window at START.
+fn root(mode: u64, page: u64) -> u64 {
+    mode << 60 | (START / 4096 + page)
+}
+
+/// Sv48 on Sv57x4: a page of 512 GiB at the last addresses below 2^47 leads to guest address 2^55,
+/// which a page of 256 TiB maps; the guest's first 256 TiB, where the first stage's table lies, stay
+/// where they are. A mode above 10 is misconfigured.
+#[test]
+fn four_levels_on_five() {
+    const LEAF: u64 = 0xDF; // V, R, W, X, U, A, D
+    let mut window = vec![0; 8 * 4096];
+    put(&mut window, 0, 1);
+    put(&mut window, 8, root(10, 4));
+    put(&mut window, 24, root(9, 1));
+    put(&mut window, 4096 + 255 * 8, (1 << 55 >> 2) | LEAF);
+    put(&mut window, 4 * 4096, LEAF);
+    put(&mut window, 4 * 4096 + 128 * 8, (3 << 48 >> 2) | LEAF);
+
+    let last = Request::read(0, (1 << 47) - 8, 8);
+    let (answer, changed) = run(&mut window, &last);
+    assert_eq!(answer, Answer::Translated((3 << 48) + (1 << 39) - 8));
+    assert_eq!(changed, []);
+    let (answer, _) = run(&mut window, &Request::read(0, 1 << 47, 8));
+    assert_eq!(answer, fault(13, Stage::First));
+
+    for (word, page) in [(8, 4), (24, 1)] {
+        let mut other = window.clone();
+        put(&mut other, word, root(11, page));
+        let (answer, changed) = run(&mut other, &last);
+        assert_eq!(answer, fault(259, Stage::Directory));
+        assert_eq!(changed, []);
+    }
+}
+
 /// A request that breaks every rule, mended rule by rule: each refusal comes in its turn.
 #[test]
 fn refusals_in_order() {

@@ -1,0 +1,23 @@
+//! The generator's reach: in a million compared calls every mark of the reference is met, and none
+//! that isn't in its table.
+
+use yasmurekh_compare::{run, Comparison, Library, Options, Reference};
+use yasmurekh_reference::coverage::Coverage;
+
+#[test]
+fn every_mark_is_met() {
+    let reference = Reference {
+        coverage: Some(Coverage::default()),
+    };
+    let mut comparison = Comparison::new(Library, reference);
+    let options = Options {
+        seed: 1,
+        from: 0,
+        count: 1_000_000,
+    };
+    let outcome = run(&mut comparison, &options, &mut std::io::sink());
+    assert_eq!(outcome.found.map(|found| found.text()), None);
+    let coverage = comparison.reference.coverage.unwrap_or_default();
+    assert_eq!(coverage.at_zero(), []);
+    assert_eq!(coverage.unexpected(), []);
+}
