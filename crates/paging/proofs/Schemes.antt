@@ -1,30 +1,41 @@
 -- The facts of a scheme, by the tests that the code makes: each over any scheme. Assumes nothing.
-use Prim.Native.Nat.{ℕ, _+_, _-_, _*_, _/_, _%_, _^_, _<_}
-use mathlib.Core.Bool.{Bool, true, false}
-use mathlib.Core.Path.{_≡_, sym, _∙_}
+use Prim.Native.Nat.{ℕ, _+_, _-_, _*_, _/_, _%_, _^_, _<_, _≤_}
+use mathlib.Core.Bool.{Bool, true, false, _&&_, _||_}
+use mathlib.Core.Path.{_≡_, refl, sym, ap, _∙_}
 use native.Mathlib.Omega.{arith}
-use native.Mathlib.Nat.{mod-lt}
+use native.Mathlib.Nat.{mod-lt, div-eq-of-lt, div-lt-iff-lt-mul}
 use lib.Dec.{eqb, ltb}
 use lib.Pow.{pow-mono, pow-pos}
-use borrow.Author.Tests.{eq-eqb, ne-eqb}
+use borrow.Author.Tests.{ltb-true, ltb-false, eq-eqb, ne-eqb}
+use Rattle.memory.specs.Choice.{pick}
 use Rattle.paging.specs.declared.Scheme.{Scheme}
-use Rattle.paging.specs.Scheme.{levelsOf, rootBitsOf, addressBitsOf, signedOf, legalOf, indexOf}
+use Rattle.paging.specs.Scheme.{levelsOf, rootBitsOf, addressBitsOf, signedOf, signExtended, legalOf, indexOf}
+use Rattle.paging.specs.Tests.{freeBitsOf}
 
--- the address's top bits
-module _ (s : Scheme) (a w : ℕ) (g : Bool) (hw : w ≡ addressBitsOf s) (hg : g ≡ signedOf s) where
-  pub legal-zero : g ≡ true → a / 2 ^ (w - 1) ≡ 0 → true ≡ legalOf s a
-  unfolding legalOf
-  legal-zero t z = simp (← hg, t, ← hw, z)
+-- the bit from which a legal address's bits are alike, where there is a sign
+pub free-signed : (s : Scheme) (w : ℕ) (g : Bool) → w ≡ addressBitsOf s → g ≡ signedOf s → g ≡ true → w - 1 ≡ freeBitsOf s
+free-signed s w g hw hg t = simp (← hg, t, hw)
 
-  pub legal-ones : (p : ℕ) → g ≡ true → (a / 2 ^ (w - 1) ≡ 0 → ⊥) → p ≡ 2 ^ (65 - w) → eqb (a / 2 ^ (w - 1)) (p - 1) ≡ legalOf s a
-  unfolding legalOf
-  legal-ones p t z e = simp (← hg, t, ← hw, ne-eqb (a / 2 ^ (w - 1)) 0 z, e)
+-- the bits of an address from k on, where a legal address's are alike: by whether there is a sign
+module _ (a w k p : ℕ) (h : 0 < k) (e : p ≡ 2 ^ (64 - k)) where
+  legal-by : (g : Bool) → k ≡ pick g (w - 1) w → (eqb (a / 2 ^ k) 0 || (g && eqb (a / 2 ^ k) (p - 1))) ≡ pick g (signExtended w a) (ltb a (2 ^ w))
+  legal-by true f =
+      let n : 64 - k ≡ 65 - w = omega arith in
+      simp (← f, e, n)
+  legal-by false f = go (ltb a (2 ^ k)) refl ∙ ap (λ (i : ℕ). ltb a (2 ^ i)) f
+    where
+      go : (b : Bool) → ltb a (2 ^ k) ≡ b → (eqb (a / 2 ^ k) 0 || false) ≡ ltb a (2 ^ k)
+      go true t = simp (t, div-eq-of-lt (ltb-true a (2 ^ k) t))
+      go false t =
+          let q : 1 * 2 ^ k ≤ a = omega (arith, ltb-false a (2 ^ k) t) in
+          simp (t, ne-eqb (a / 2 ^ k) 0 (λ z. omega (arith, div-lt-iff-lt-mul {x = a} {y = 1} (pow-pos k) .0 (omega arith))))
 
-  pub legal-below : (p : ℕ) → g ≡ false → p ≡ 2 ^ w → ltb a p ≡ legalOf s a
-  unfolding legalOf
-  legal-below p t e = simp (← hg, t, ← hw, e)
+pub legal-is : (s : Scheme) (a k p : ℕ) (g : Bool) → k ≡ freeBitsOf s → 0 < k → g ≡ signedOf s → p ≡ 2 ^ (64 - k) → (eqb (a / 2 ^ k) 0 || (g && eqb (a / 2 ^ k) (p - 1))) ≡ legalOf s a
+unfolding legalOf
+legal-is s a k p g hk h hg e =
+    ap (λ (b : Bool). eqb (a / 2 ^ k) 0 || (b && eqb (a / 2 ^ k) (p - 1))) hg ∙ legal-by a (addressBitsOf s) k p h e (signedOf s) hk
 
-pub ruleset legal-ways = (legal-zero, legal-ones, legal-below)
+pub ruleset legal-ways = (legal-is)
 
 -- the index at the root, and below it
 module _ (s : Scheme) (a n l : ℕ) (hl : l ≡ levelsOf s) where

@@ -9,7 +9,7 @@ use Rattle.memory.specs.Choice.{pick}
 use Rattle.memory.specs.Bits.{bit}
 use Rattle.memory.specs.declared.Load.{Load}
 use Rattle.memory.specs.declared.Load.the-variants.{Value, Violation}
-use Rattle.memory.specs.Walk.{Walk, run}
+use Rattle.memory.specs.Walk.{Walk, done, run}
 use Rattle.causes.specs.declared.Access.{Access}
 use Rattle.causes.specs.declared.Access.the-variants.{Read, Write, Execute}
 use Rattle.paging.specs.declared.Scheme.{Scheme}
@@ -23,12 +23,12 @@ use Rattle.paging.specs.declared.Step.{Step}
 use Rattle.paging.specs.declared.Step.the-variants.{Stop}
 use Rattle.paging.specs.declared.Raw.{Raw}
 use Rattle.paging.specs.declared.Raw.the-variants.{Arrive, Next, Faulty, Unread}
-use Rattle.paging.specs.Scheme.{pageBitsOf}
+use Rattle.paging.specs.Scheme.{levelsOf, pageBitsOf, legalOf}
 use Rattle.paging.specs.Purpose.{askedOf}
 use Rattle.paging.specs.Entry.{pageOf, kindOf, entryOf, permits, ownedBy, allows, mappedBy}
-use Rattle.paging.specs.Levels.{faulted, onEntry, onLoad, onStep, entryAt, levelOf, levels}
+use Rattle.paging.specs.Levels.{faulted, onEntry, onLoad, onStep, entryAt, levelOf, levels, walkOf}
 use Rattle.paging.specs.Stages.{direct}
-use Rattle.paging.specs.Tests.{tableBits, permitOf, leafBits, rawLoad, toStep, toldOf, faultyEnd, codeOf, toldBy, onRaw, rawLevels, Tight}
+use Rattle.paging.specs.Tests.{tableBits, permitOf, leafBits, rawLoad, toStep, toldOf, faultyEnd, codeOf, toldBy, onRaw, rawLevels, rawWalk, Tight}
 
 -- an entry's step, for the access k that the page must permit
 abbrev onKind : Lookup → ℕ → Access → Entry → Step
@@ -131,6 +131,14 @@ module _ (m : ℕ → Load) (s : Scheme) (q : Lookup) where
   raw-walk (suc n) table =
       raw-turn n (raw-walk n) (rawLoad (askedOf (q .purpose) (q .access)) (q .pages) (q .address) n (m (entryAt s q n table)))
       ∙ ap (λ (k : Step). run m (onStep (levels s q direct n) k)) (tested q n (m (entryAt s q n table)))
+
+  pub raw-whole : (root : ℕ) → toldOf (q .purpose) (q .access) (run m (rawWalk s (askedOf (q .purpose) (q .access)) (q .pages) (q .address) root)) ≡ run m (walkOf s q direct root)
+  unfolding rawWalk walkOf
+  raw-whole root = go (legalOf s (q .address))
+    where
+      go : (b : Bool) → toldOf (q .purpose) (q .access) (run m (pick b (raws (levelsOf s) root) (done Faulty))) ≡ run m (pick b (levels s q direct (levelsOf s) root) (done (faulted q)))
+      go true = raw-walk (levelsOf s) root
+      go false = refl
 
 -- the number of a walk's end says what the end says
 pub coded : (p : Purpose) (x : Access) (r : Raw) → Tight r → toldBy p x (codeOf r) ≡ toldOf p x r

@@ -1,13 +1,16 @@
 -- The walk over levels, by the ways through a level and a turn: once for any scheme and any way to reach an entry. Assumes nothing.
 use Prim.Native.Nat.{ℕ, suc, _+_, _-_, _*_, _<_, _≤_, _^_}
-use mathlib.Core.Bool.{Bool, true, false}
+use mathlib.Core.Bool.{Bool, true, false, not}
 use mathlib.Core.Path.{_≡_, refl, sym, ap, _∙_, subst}
 use native.Mathlib.Omega.{arith}
+use lib.Dec.{eqb}
+use borrow.Author.Tests.{not-true, not-false, lt-ltb, le-ltb}
 use Rattle.memory.specs.declared.Load.{Load}
 use Rattle.memory.specs.Choice.{pick}
 use Rattle.memory.specs.Walk.{Walk, done, run}
 use Rattle.memory.proofs.Walks.{then, loads, at}
 use Rattle.causes.specs.declared.Access.{Access}
+use Rattle.causes.specs.declared.Access.the-variants.{Read}
 use Rattle.causes.specs.declared.FaultInfo.{FaultInfo}
 use Rattle.paging.specs.declared.Scheme.{Scheme}
 use Rattle.paging.specs.declared.PageTable.{PageTable}
@@ -26,9 +29,9 @@ use Rattle.paging.specs.Stages.{direct, guestLookup, secondStageOf, entr
 use Rattle.paging.specs.Within.{Near, Within, Small}
 use Rattle.paging.specs.declared.Raw.{Raw}
 use Rattle.paging.specs.declared.Raw.the-variants.{Arrive, Unread}
-use Rattle.paging.specs.Purpose.{askedOf, pageFaultOf}
-use Rattle.paging.specs.Tests.{rawLoad, toStep, toldOf, faultyEnd, unreadEnd, codeOf, toldBy, onRaw, rawLevels, Tight}
-use Rattle.paging.proofs.Tested.{tested, raw-walk, coded}
+use Rattle.paging.specs.Purpose.{askedOf, pageFaultOf, accessFaultOf}
+use Rattle.paging.specs.Tests.{rawLoad, toStep, toldOf, faultyEnd, unreadEnd, codeOf, toldBy, onRaw, rawLevels, rawWalk, Tight}
+use Rattle.paging.proofs.Tested.{tested, raw-whole, coded}
 
 one-less : (left : ℕ) → 0 < left → suc (left - 1) ≡ left
 one-less left p = omega arith
@@ -43,22 +46,49 @@ module _ (m : ℕ → Load) (s : Scheme) (q : Lookup) (reach : ℕ → Walk Tran
   unfolding levelOf
   placed x e = then m (reach (entryAt s q n table)) (onPlace q n) (ht ∙ ap (λ (j : ℕ). run m (reach (table * 4096 + 8 * j))) hi) e
 
-  pub level-stops : (f : FaultInfo) → t ≡ Fault f → Stop t ≡ run m (levelOf s q reach n table)
-  level-stops f e = placed (Stop t) (at m (onPlace q n) e (ap Stop e))
+  stops : (f : FaultInfo) → t ≡ Fault f → Stop t ≡ run m (levelOf s q reach n table)
+  stops f e = placed (Stop t) (at m (onPlace q n) e (ap Stop e))
 
-  pub level-loads : (p : ℕ) (v : Load) (x : Step) → t ≡ To p → v ≡ m p → x ≡ onLoad q n v → x ≡ run m (levelOf s q reach n table)
-  level-loads p v x e h k = placed x (at m (onPlace q n) e (loads m p (λ w. done (onLoad q n w)) h k))
+  loaded : (p : ℕ) (v : Load) (x : Step) → t ≡ To p → v ≡ m p → x ≡ onLoad q n v → x ≡ run m (levelOf s q reach n table)
+  loaded p v x e h k = placed x (at m (onPlace q n) e (loads m p (λ w. done (onLoad q n w)) h k))
 
-pub stop-small : (t : Translation) (f : FaultInfo) → t ≡ Fault f → Near t
-stop-small t f e = subst Near (sym e) tt
+-- the second stage's walk, by the number of its end
+module _ (m : ℕ → Load) (g : PageTable) (p : Purpose) (x : Access) (a : ℕ) (h : g .on ≡ true) where
+  pub second-walks : (t : Translation) (k : Access) (n : ℕ) (r : Raw) → k ≡ askedOf p x
+      → r ≡ run m (rawWalk (g .scheme) k User a (g .root)) → Tight r → n ≡ codeOf r → t ≡ toldBy p x n → t ≡ run m (secondStageOf g p x a)
+  unfolding secondStageOf
+  second-walks t k n r hk hr ht hn e =
+      e ∙ ap (toldBy p x) hn ∙ coded p x r ht
+      ∙ ap (toldOf p x) (hr ∙ ap (λ (y : Access). run m (rawWalk (g .scheme) y User a (g .root))) hk)
+      ∙ raw-whole m (g .scheme) (guestLookup p x a) (g .root)
+      ∙ simp h
 
--- the step of a first-stage entry
-pub level-steps : (m : ℕ → Load) (s : Scheme) (q : Lookup) (reach : ℕ → Walk Translation) (n table i : ℕ) (t : Translation) (p : ℕ) (v : Load) (k : Access) (r : Raw) (x : Step)
-    → i ≡ indexOf s (q .address) n → t ≡ run m (reach (table * 4096 + 8 * i)) → t ≡ To p → v ≡ m p
-    → k ≡ askedOf (q .purpose) (q .access) → r ≡ rawLoad k (q .pages) (q .address) n v → x ≡ toStep (q .purpose) (q .access) r → x ≡ run m (levelOf s q reach n table)
-level-steps m s q reach n table i t p v k r x hi ht e h hk hr hx =
-    level-loads m s q reach n table i t hi ht p v x e h
-    (hx ∙ ap (toStep (q .purpose) (q .access)) (hr ∙ ap (λ (y : Access). rawLoad y (q .pages) (q .address) n v) hk) ∙ tested q n v)
+told-stop : (p : Purpose) (x : Access) (r : ℕ) → faultyEnd ≤ r → (f : FaultInfo) × (toldBy p x r ≡ Fault f)
+told-stop p x r l = go (eqb r faultyEnd) refl
+  where
+    go : (b : Bool) → eqb r faultyEnd ≡ b → (f : FaultInfo) × (toldBy p x r ≡ Fault f)
+    go true z = (pageFaultOf p x, simp (le-ltb r faultyEnd l, z))
+    go false z = (accessFaultOf p x, simp (le-ltb r faultyEnd l, z))
+
+-- a level whose entry lies at a guest address: `place` is the end of the second stage's walk
+module _ (m : ℕ → Load) (s : Scheme) (q : Lookup) (g : PageTable) (n table i place : ℕ) (w : Raw) (h : g .on ≡ true)
+    (hi : i ≡ indexOf s (q .address) n) (hw : w ≡ run m (rawWalk (g .scheme) Read User (table * 4096 + 8 * i) (g .root))) (hT : Tight w) (hp : place ≡ codeOf w) where
+  reached : (t : Translation) → t ≡ toldBy FirstStageEntry (q .access) place → t ≡ run m (entryReach g q (table * 4096 + 8 * i))
+  reached t e = second-walks m g FirstStageEntry (q .access) (table * 4096 + 8 * i) h t Read place w refl hw hT hp e
+
+  pub level-stops : (t : Translation) → faultyEnd ≤ place → t ≡ toldBy FirstStageEntry (q .access) place → Stop t ≡ run m (levelOf s q (entryReach g q) n table)
+  level-stops t l e =
+      let f = told-stop FirstStageEntry (q .access) place l in
+      stops m s q (entryReach g q) n table i t hi (reached t e) (f .0) (e ∙ f .1)
+
+  pub level-steps : (v : Load) (k : Access) (r : Raw) (x : Step) → place < faultyEnd → v ≡ m place
+      → k ≡ askedOf (q .purpose) (q .access) → r ≡ rawLoad k (q .pages) (q .address) n v → x ≡ toStep (q .purpose) (q .access) r → x ≡ run m (levelOf s q (entryReach g q) n table)
+  level-steps v k r x l hv hk hr hx =
+      loaded m s q (entryReach g q) n table i (To place) hi (reached (To place) (simp (lt-ltb place faultyEnd l))) place v x refl hv
+      (hx ∙ ap (toStep (q .purpose) (q .access)) (hr ∙ ap (λ (y : Access). rawLoad y (q .pages) (q .address) n v) hk) ∙ tested q n v)
+
+pub stop-small : (p : Purpose) (x : Access) (r : ℕ) (t : Translation) → faultyEnd ≤ r → t ≡ toldBy p x r → Near t
+stop-small p x r t l e = let f = told-stop p x r l in subst Near (sym (e ∙ f .1)) tt
 
 small-of : (p : Purpose) (x : Access) (r : Raw) → Tight r → Small (toStep p x r)
 small-of p x (Arrive a) h = h
@@ -115,14 +145,25 @@ module _ (m : ℕ → Load) (s : Scheme) (x : Access) (pages : Pages) (a left ta
   pub end-ends : Tight w
   end-ends = subst Tight no-leaf tt
 
-pub raw-starts : (m : ℕ → Load) (s : Scheme) (x : Access) (pages : Pages) (a left root : ℕ)
-    → left ≡ levelsOf s → run m (rawLevels s x pages a left root) ≡ run m (rawLevels s x pages a (levelsOf s) root)
-raw-starts m s x pages a left root h = ap (λ (k : ℕ). run m (rawLevels s x pages a k root)) h
+-- before the loop
+module _ (m : ℕ → Load) (s : Scheme) (x : Access) (pages : Pages) (a root : ℕ) (l : Bool) (hl : l ≡ legalOf s a) where
+  begun : {b : Bool} → l ≡ b → run m (pick b (rawLevels s x pages a (levelsOf s) root) (done Raw.Faulty)) ≡ run m (rawWalk s x pages a root)
+  unfolding rawWalk
+  begun e = ap (λ (b : Bool). run m (pick b (rawLevels s x pages a (levelsOf s) root) (done Raw.Faulty))) (sym e ∙ hl)
+
+  pub raw-starts : (left : ℕ) → not l ≡ false → left ≡ levelsOf s → run m (rawLevels s x pages a left root) ≡ run m (rawWalk s x pages a root)
+  raw-starts left t h = ap (λ (k : ℕ). run m (rawLevels s x pages a k root)) h ∙ begun (not-false l t)
+
+  pub code-illegal : not l ≡ true → faultyEnd ≡ codeOf (run m (rawWalk s x pages a root))
+  code-illegal t = ap codeOf (begun (not-true l t))
+
+  pub end-illegal : not l ≡ true → Tight (run m (rawWalk s x pages a root))
+  end-illegal t = subst Tight (begun (not-true l t)) tt
 
 pub tight-next : (r : Raw) (k : ℕ) → r ≡ Raw.Next k → Tight r → k < 2 ^ 44
 tight-next r k e h = subst Tight e h
 
-pub ruleset raw-ways = (raw-goes, code-arrived, code-faulted, code-unread, code-ends, end-arrived, end-faulted, end-unread, end-ends, raw-starts, tight-next)
+pub ruleset raw-ways = (raw-goes, code-arrived, code-faulted, code-unread, code-ends, end-arrived, end-faulted, end-unread, end-ends, raw-starts, code-illegal, end-illegal, tight-next)
 
 -- a turn of the loop: `left` levels are left before it, and w is the answer of the whole walk
 module _ (m : ℕ → Load) (s : Scheme) (q : Lookup) (reach : ℕ → Walk Translation) (left table : ℕ) (t : Step) (w : Translation)
@@ -160,20 +201,6 @@ module _ (m : ℕ → Load) (g : PageTable) (p : Purpose) (x : Access) (a : ℕ)
   unfolding secondStageOf
   second-bare h = simp h
 
-  module _ (legal : Bool) (h : g .on ≡ true) (hl : legal ≡ legalOf (g .scheme) a) where
-    pub second-illegal : (f : FaultInfo) → legal ≡ false → f ≡ pageFaultOf p x → Fault f ≡ run m (secondStageOf g p x a)
-    unfolding secondStageOf walkOf
-    second-illegal f l e = ap Fault e ∙ simp (h, ← hl, l)
-
-    pub second-walks : (t : Translation) (k : Access) (n : ℕ) (r : Raw) → legal ≡ true → k ≡ askedOf p x
-        → r ≡ run m (rawLevels (g .scheme) k User a (levelsOf (g .scheme)) (g .root)) → Tight r → n ≡ codeOf r → t ≡ toldBy p x n → t ≡ run m (secondStageOf g p x a)
-    unfolding secondStageOf walkOf
-    second-walks t k n r l hk hr ht hn e =
-        e ∙ ap (toldBy p x) hn ∙ coded p x r ht
-        ∙ ap (toldOf p x) (hr ∙ ap (λ (y : Access). run m (rawLevels (g .scheme) y User a (levelsOf (g .scheme)) (g .root))) hk)
-        ∙ raw-walk m (g .scheme) (guestLookup p x a) (levelsOf (g .scheme)) (g .root)
-        ∙ simp (h, ← hl, l)
-
 within-of : (a : ℕ) (p : Purpose) (x : Access) (r : Raw) → Tight r → Within a (toldOf p x r)
 within-of a p x (Arrive b) h = omega arith
 within-of a p x (Raw.Next t) h = tt
@@ -186,7 +213,7 @@ told-within a p x n r t e k h = subst (Within a) (sym (e ∙ ap (toldBy p x) k �
 pub bare-within : (a : ℕ) → a ≤ a + 2 ^ 57
 bare-within a = omega arith
 
-pub ruleset second-ways = (second-bare, second-illegal, second-walks, told-within, bare-within)
+pub ruleset second-ways = (second-bare, second-walks, told-within, bare-within)
 
 bare-reach : (g : PageTable) (q : Lookup) → g .on ≡ false → entryReach g q ≡ direct
 unfolding secondStageOf
@@ -209,13 +236,14 @@ module _ (m : ℕ → Load) (f g : PageTable) (x : Access) (pages : Pages) (a : 
     unfolding firstStageOf walkOf
     first-walks l e = e ∙ simp (h, ← hl, l)
 
-    -- "First-stage entries lie at guest addresses when the second stage is on", else where their addresses say
-    pub first-direct : (n : ℕ) (r : Raw) → legal ≡ true → g .on ≡ false → r ≡ run m (rawLevels (f .scheme) x pages a (levelsOf (f .scheme)) (f .root))
-        → Tight r → n ≡ codeOf r → t ≡ toldBy FirstStage x n → t ≡ run m (firstStageOf f g x pages a)
-    first-direct n r l b e ht hn k =
-        first-walks l
-        (k ∙ ap (toldBy FirstStage x) hn ∙ coded FirstStage x r ht ∙ ap (toldOf FirstStage x) e
-        ∙ raw-walk m (f .scheme) (deviceLookup x pages a) (levelsOf (f .scheme)) (f .root)
-        ∙ ap (λ (reach : ℕ → Walk Translation). run m (levels (f .scheme) (deviceLookup x pages a) reach (levelsOf (f .scheme)) (f .root))) (sym (bare-reach g (deviceLookup x pages a) b)))
+  -- "First-stage entries lie at guest addresses when the second stage is on", else where their addresses say
+  pub first-direct : (t : Translation) (n : ℕ) (r : Raw) → f .on ≡ true → g .on ≡ false → r ≡ run m (rawWalk (f .scheme) x pages a (f .root))
+      → Tight r → n ≡ codeOf r → t ≡ toldBy FirstStage x n → t ≡ run m (firstStageOf f g x pages a)
+  unfolding firstStageOf
+  first-direct t n r h b e ht hn k =
+      k ∙ ap (toldBy FirstStage x) hn ∙ coded FirstStage x r ht ∙ ap (toldOf FirstStage x) e
+      ∙ raw-whole m (f .scheme) (deviceLookup x pages a) (f .root)
+      ∙ ap (λ (reach : ℕ → Walk Translation). run m (walkOf (f .scheme) (deviceLookup x pages a) reach (f .root))) (sym (bare-reach g (deviceLookup x pages a) b))
+      ∙ simp h
 
 pub ruleset first-ways = (first-bare, first-illegal, first-walks, first-direct)

@@ -1,5 +1,5 @@
 -- The walk as the code makes it: an entry by tests of its bits joined by `&`, and steps that carry no cause. Nothing that a reader has to believe: `paging.Tested.tested`, `paging.Tested.raw-walk` and `paging.Tested.coded` show that it says what `Entry` and `Levels` say.
-use Prim.Native.Nat.{ℕ, zero, suc, _+_, _*_, _/_, _%_, _^_, _<_}
+use Prim.Native.Nat.{ℕ, zero, suc, _+_, _-_, _*_, _/_, _%_, _^_, _<_}
 use mathlib.Core.Bool.{Bool, not, _&&_, _||_}
 use lib.Dec.{eqb, ltb}
 use Rattle.memory.specs.Choice.{pick}
@@ -18,9 +18,13 @@ use Rattle.paging.specs.declared.Step.{Step}
 use Rattle.paging.specs.declared.Step.the-variants.{Stop}
 use Rattle.paging.specs.declared.Raw.{Raw}
 use Rattle.paging.specs.declared.Raw.the-variants.{Arrive, Next, Faulty, Unread}
-use Rattle.paging.specs.Scheme.{pageBitsOf, indexOf}
+use Rattle.paging.specs.Scheme.{levelsOf, addressBitsOf, signedOf, pageBitsOf, legalOf, indexOf}
 use Rattle.paging.specs.Purpose.{pageFaultOf, accessFaultOf}
 use Rattle.paging.specs.Entry.{pageOf, leafOf, ownedBy}
+
+-- from this bit on the bits of a legal address are alike: the highest translated bit is one of them where it is a sign
+abbrev pub freeBitsOf : Scheme → ℕ
+freeBitsOf s = pick (signedOf s) (addressBitsOf s - 1) (addressBitsOf s)
 
 -- V = 1, and none of bits 63:54
 abbrev pub soundBits : ℕ → Bool
@@ -92,6 +96,11 @@ module _ (s : Scheme) (x : Access) (pages : Pages) (a : ℕ) where
   unfolding rawLoad
   rawLevels zero table = done Faulty
   rawLevels (suc n) table = load (table * 4096 + 8 * indexOf s a n) (λ v. onRaw (rawLevels n) (rawLoad x pages a n v))
+
+  -- the whole of it, the address looked at first
+  unfoldable pub rawWalk : ℕ → Walk Raw
+  unfolding rawLevels
+  rawWalk root = pick (legalOf s a) (rawLevels (levelsOf s) root) (done Faulty)
 
 -- bounds that sums need
 abbrev pub Tight : Raw → Type 0

@@ -4,7 +4,7 @@ use causes::FaultInfo;
 use causes::Stage;
 use memory::Load;
 ghost use mathlib.Core.Path.{_≡_};
-ghost use mathlib.Core.Bool.{not};
+ghost use mathlib.Core.Bool.{true, not};
 ghost use lib.Dec.{eqb};
 ghost use Prim.Native.Nat.{ℕ, _*_, _/_, _%_, _<_, _^_};
 ghost use Rattle.memory.specs.Window.{memory};
@@ -17,7 +17,7 @@ ghost use Rattle.paging.specs.Entry.{leafOf, ownedBy, pagesFor};
 ghost use Rattle.paging.specs.Levels.{faulted as faultedOf, levelOf, levels as levelsFrom};
 ghost use Rattle.paging.specs.Stages.{secondStageOf, entryReach, firstStageOf};
 ghost use Rattle.paging.specs.Within.{Within, Small};
-ghost use Rattle.paging.specs.Tests.{soundBits, tableBits, permitBits, leafBits, rawLoad, rawLevels, toStep, codeOf, toldBy, Tight};
+ghost use Rattle.paging.specs.Tests.{freeBitsOf, soundBits, tableBits, permitBits, leafBits, rawLoad, rawWalk, toStep, codeOf, toldBy, Tight};
 
 // The page-table schemes (01, "Fixed capabilities"; 02, Req 03).
 pub enum Scheme {
@@ -162,19 +162,25 @@ impl Scheme {
         }
     }
 
-    // Whether the bits above the translated ones are as the scheme wants them.
-    pub fn legal(self, a: u64) -> bool
-        ensures { λ r. ⌜ r ≡ legalOf self a ⌝ }
+    // From this bit on the bits of a legal address are alike: where the highest translated bit is a sign, it is one of them.
+    fn free_bits(self) -> u64
+        ensures { λ r. ⌜ (r ≡ freeBitsOf self) × (0 < r) × (r < 60) ⌝ }
     {
         let width = self.address_bits();
         if self.signed() {
-            let top = a >> (width - 1);
-            if top == 0 {
-                return true;
-            }
-            return top == power(65 - width) - 1;
+            return width - 1;
         }
-        a < power(width)
+        width
+    }
+
+    // Whether they are: all 0 or, where there is a sign, all 1. No branch: schemes come mixed.
+    pub fn legal(self, a: u64) -> bool
+        ensures { λ r. ⌜ r ≡ legalOf self a ⌝ }
+    {
+        let low = self.free_bits();
+        let signed = self.signed();
+        let top = a >> low;
+        (top == 0) | (signed & (top == power(64 - low) - 1))
     }
 
     // The entry of a level-n table that an address uses.
@@ -366,11 +372,14 @@ const FAULTY: u64 = 9223372036854775808;
 
 const UNREAD: u64 = 9223372036854775809;
 
-// The walk of a table whose entries lie where their addresses say. Its end is one number, so that it comes back in a register; causes come after it.
+// The walk of a table whose entries lie where their addresses say, the address looked at first. Its end is one number, so that it comes back in a register; causes come after it.
 fn descend(s: Scheme, x: Access, pages: Pages, a: u64, start: u64, window: &[u8], root: u64) -> u64
     requires { ⌜ root < 2 ^ 44 ⌝ }
-    ensures { λ r. ⌜ (r ≡ codeOf (run (memory start (now (window .entry))) (rawLevels s x pages a (levelsOf s) root))) × Tight (run (memory start (now (window .entry))) (rawLevels s x pages a (levelsOf s) root)) ⌝ }
+    ensures { λ r. ⌜ (r ≡ codeOf (run (memory start (now (window .entry))) (rawWalk s x pages a root))) × Tight (run (memory start (now (window .entry))) (rawWalk s x pages a root)) ⌝ }
 {
+    if !s.legal(a) {
+        return FAULTY;
+    }
     let mut left = s.levels();
     let mut table = root;
     while 0 < left {
@@ -433,19 +442,13 @@ pub fn second_stage(
 {
     if g.on {
         let s = g.scheme;
-        if s.legal(a) {
-            return told(
-                p,
-                x,
-                descend(s, asked(p, x), Pages::User, a, start, window, g.root),
-            );
-        }
-        return Translation::Fault(page_fault(p, x));
+        let r = descend(s, asked(p, x), Pages::User, a, start, window, g.root);
+        return told(p, x, r);
     }
     Translation::To(a)
 }
 
-// One level of a first-stage table, whose entries lie at guest addresses.
+// One level of a first-stage table, whose entries lie at guest addresses. A fault's cause is made where there is one.
 fn guest_level(
     s: Scheme,
     q: Lookup,
@@ -455,22 +458,23 @@ fn guest_level(
     n: u64,
     table: u64,
 ) -> Step
-    requires { ⌜ (n < 5) × (table < 2 ^ 44) × (g .root < 2 ^ 44) ⌝ }
+    requires { ⌜ (n < 5) × (table < 2 ^ 44) × (g .on ≡ true) × (g .root < 2 ^ 44) ⌝ }
     ensures { λ r. ⌜ (r ≡ run (memory start (now (window .entry))) (levelOf s q (entryReach g q) n table)) × Small r ⌝ }
 {
     let x = q.access;
     let at = table * 4096 + 8 * s.index(q.address, n);
-    let place = second_stage(g, Purpose::FirstStageEntry, x, start, window, at);
-    let Translation::To(p) = place else {
-        return Step::Stop(place);
-    };
+    let guest = g.scheme;
+    let place = descend(guest, Access::Read, Pages::User, at, start, window, g.root);
+    if FAULTY <= place {
+        return Step::Stop(told(Purpose::FirstStageEntry, x, place));
+    }
     let o = q.purpose;
     let k = asked(o, x);
     let pages = q.pages;
     stepped(
         o,
         x,
-        read_entry(k, pages, q.address, n, memory::load64(start, window, p)),
+        read_entry(k, pages, q.address, n, memory::load64(start, window, place)),
     )
 }
 
@@ -482,7 +486,7 @@ fn guest_descend(
     window: &[u8],
     root: u64,
 ) -> Translation
-    requires { ⌜ (root < 2 ^ 44) × (g .root < 2 ^ 44) ⌝ }
+    requires { ⌜ (root < 2 ^ 44) × (g .on ≡ true) × (g .root < 2 ^ 44) ⌝ }
     ensures { λ r. ⌜ r ≡ run (memory start (now (window .entry))) (levelsFrom s q (entryReach g q) (levelsOf s) root) ⌝ }
 {
     let mut left = s.levels();
@@ -516,20 +520,20 @@ pub fn first_stage(
 {
     if f.on {
         let s = f.scheme;
-        let q = Lookup {
-            address: a,
-            access: x,
-            purpose: Purpose::FirstStage,
-            pages,
-        };
-        if s.legal(a) {
-            if g.on {
+        if g.on {
+            let q = Lookup {
+                address: a,
+                access: x,
+                purpose: Purpose::FirstStage,
+                pages,
+            };
+            if s.legal(a) {
                 return guest_descend(s, q, g, start, window, f.root);
             }
-            let o = Purpose::FirstStage;
-            return told(o, x, descend(s, x, pages, a, start, window, f.root));
+            return faulted(q);
         }
-        return faulted(q);
+        let r = descend(s, x, pages, a, start, window, f.root);
+        return told(Purpose::FirstStage, x, r);
     }
     Translation::To(a)
 }

@@ -5,18 +5,23 @@ use Prim.Native.Nat.{_<_, _^_}
 use mathlib.Core.Path.{_≡_}
 use Rattle.memory.specs.Window.{memory}
 use Rattle.memory.specs.Walk.{run}
-use Rattle.paging.specs.Scheme.{levelsOf}
-use Rattle.paging.specs.Tests.{rawLevels}
+use Rattle.paging.specs.Tests.{rawLevels, rawWalk}
 use Rattle.paging.proofs.descend.Statement.{statement}
 use Rattle.paging.proofs.descend.Tie as tie
 
 abbrev Inv-loop : tie.InvT-loop
 Inv-loop s x pages a start window root left₀ table₀ left table =
     (left < 6) × (table < 2 ^ 44)
-    × (run (memory start window) (rawLevels s x pages a left table) ≡ run (memory start window) (rawLevels s x pages a (levelsOf s) root))
+    × (run (memory start window) (rawLevels s x pages a left table) ≡ run (memory start window) (rawWalk s x pages a root))
 
 abbrev μ-loop : tie.MeasureT-loop
 μ-loop s x pages a start window root left₀ table₀ left table = left
+
+legal-requires : tie.Need-legal-requires Inv-loop μ-loop
+legal-requires c κs = search needs
+
+returns : tie.Need-returns Inv-loop μ-loop
+returns c = search (raw-ways, needs)
 
 levels-requires : tie.Need-levels-requires Inv-loop μ-loop
 levels-requires c κs = search (raw-ways, needs)
@@ -57,23 +62,23 @@ loop-again c = search (raw-ways, needs)
 enum-known-p : tie.Need-enum-known-p Inv-loop μ-loop
 enum-known-p c = search (raw-ways, needs)
 
-returns : tie.Need-returns Inv-loop μ-loop
-returns c = search (raw-ways, needs)
+returns-2 : tie.Need-returns-2 Inv-loop μ-loop
+returns-2 c = search (raw-ways, needs)
 
 enum-told : tie.Need-enum-told Inv-loop μ-loop
 enum-told c = search (raw-ways, needs)
 
-returns-2 : tie.Need-returns-2 Inv-loop μ-loop
-returns-2 c = search (raw-ways, needs)
+returns-3 : tie.Need-returns-3 Inv-loop μ-loop
+returns-3 c = search (raw-ways, needs)
 
 enum-told-2 : tie.Need-enum-told-2 Inv-loop μ-loop
 enum-told-2 c = search (raw-ways, needs)
 
-returns-3 : tie.Need-returns-3 Inv-loop μ-loop
-returns-3 c = search (raw-ways, needs)
-
 returns-4 : tie.Need-returns-4 Inv-loop μ-loop
 returns-4 c = search (raw-ways, needs)
+
+returns-5 : tie.Need-returns-5 Inv-loop μ-loop
+returns-5 c = search (raw-ways, needs)
 
 pub descend-spec : {M : Type 1} → statement M
 descend-spec =
@@ -81,6 +86,8 @@ descend-spec =
     (tie.spec
     Inv-loop
     μ-loop
+    legal-requires
+    returns
     levels-requires
     loop-holds
     sub-left
@@ -94,9 +101,9 @@ descend-spec =
     loop-less
     loop-again
     enum-known-p
-    returns
-    enum-told
     returns-2
-    enum-told-2
+    enum-told
     returns-3
-    returns-4)
+    enum-told-2
+    returns-4
+    returns-5)

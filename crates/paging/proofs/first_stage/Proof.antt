@@ -13,17 +13,17 @@ guest-descend-requires c κs = search needs
 returns : tie.Need-returns
 returns c = search (first-ways, needs)
 
+faulted-requires : tie.Need-faulted-requires
+faulted-requires c κs = search needs
+
+returns-2 : tie.Need-returns-2
+returns-2 c = search (first-ways, needs)
+
 descend-requires : tie.Need-descend-requires
 descend-requires c κs = search needs
 
 told-requires : tie.Need-told-requires
 told-requires c κs = search needs
-
-returns-2 : tie.Need-returns-2
-returns-2 c = search (first-ways, needs)
-
-faulted-requires : tie.Need-faulted-requires
-faulted-requires c κs = search needs
 
 returns-3 : tie.Need-returns-3
 returns-3 c = search (first-ways, needs)
@@ -38,9 +38,9 @@ first-stage-spec =
     legal-requires
     guest-descend-requires
     returns
+    faulted-requires
+    returns-2
     descend-requires
     told-requires
-    returns-2
-    faulted-requires
     returns-3
     returns-4)

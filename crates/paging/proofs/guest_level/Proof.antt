@@ -16,14 +16,11 @@ mul-at-2 c = search needs
 add-at : tie.Need-add-at
 add-at c = search needs
 
-second-stage-requires : tie.Need-second-stage-requires
-second-stage-requires c κs = search needs
+descend-requires : tie.Need-descend-requires
+descend-requires c κs = search needs
 
-enum-known-place : tie.Need-enum-known-place
-enum-known-place c = search needs
-
-enum-told : tie.Need-enum-told
-enum-told c = search needs
+told-requires : tie.Need-told-requires
+told-requires c κs = search needs
 
 returns : tie.Need-returns
 returns c = search (level-ways, needs)
@@ -51,9 +48,8 @@ guest-level-spec =
     index-requires
     mul-at-2
     add-at
-    second-stage-requires
-    enum-known-place
-    enum-told
+    descend-requires
+    told-requires
     returns
     asked-requires
     load64-requires

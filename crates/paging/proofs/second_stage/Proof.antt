@@ -4,9 +4,6 @@ use borrow.Author.Needs.{needs}
 use Rattle.paging.proofs.second_stage.Statement.{statement}
 use Rattle.paging.proofs.second_stage.Tie as tie
 
-legal-requires : tie.Need-legal-requires
-legal-requires c κs = search needs
-
 asked-requires : tie.Need-asked-requires
 asked-requires c κs = search needs
 
@@ -19,24 +16,9 @@ told-requires c κs = search needs
 returns : tie.Need-returns
 returns c = search (second-ways, needs)
 
-page-fault-requires : tie.Need-page-fault-requires
-page-fault-requires c κs = search needs
-
 returns-2 : tie.Need-returns-2
 returns-2 c = search (second-ways, needs)
 
-returns-3 : tie.Need-returns-3
-returns-3 c = search (second-ways, needs)
-
 pub second-stage-spec : {M : Type 1} → statement M
 second-stage-spec =
-    tie.close
-    (tie.spec
-    legal-requires
-    asked-requires
-    descend-requires
-    told-requires
-    returns
-    page-fault-requires
-    returns-2
-    returns-3)
+    tie.close (tie.spec asked-requires descend-requires told-requires returns returns-2)
