@@ -30,12 +30,18 @@ module _ (a w k p : ℕ) (h : 0 < k) (e : p ≡ 2 ^ (64 - k)) where
           let q : 1 * 2 ^ k ≤ a = omega (arith, ltb-false a (2 ^ k) t) in
           simp (t, ne-eqb (a / 2 ^ k) 0 (λ z. omega (arith, div-lt-iff-lt-mul {x = a} {y = 1} (pow-pos k) .0 (omega arith))))
 
-pub legal-is : (s : Scheme) (a k p : ℕ) (g : Bool) → k ≡ freeBitsOf s → 0 < k → g ≡ signedOf s → p ≡ 2 ^ (64 - k) → (eqb (a / 2 ^ k) 0 || (g && eqb (a / 2 ^ k) (p - 1))) ≡ legalOf s a
+legal-is : (s : Scheme) (a k p : ℕ) (g : Bool) → k ≡ freeBitsOf s → 0 < k → g ≡ signedOf s → p ≡ 2 ^ (64 - k) → (eqb (a / 2 ^ k) 0 || (g && eqb (a / 2 ^ k) (p - 1))) ≡ legalOf s a
 unfolding legalOf
 legal-is s a k p g hk h hg e =
     ap (λ (b : Bool). eqb (a / 2 ^ k) 0 || (b && eqb (a / 2 ^ k) (p - 1))) hg ∙ legal-by a (addressBitsOf s) k p h e (signedOf s) hk
 
-pub ruleset legal-ways = (legal-is)
+pub legal-zero : (s : Scheme) (a k : ℕ) → k ≡ freeBitsOf s → 0 < k → a / 2 ^ k ≡ 0 → true ≡ legalOf s a
+legal-zero s a k hk h z = sym (ap (λ (b : ℕ). eqb b 0 || (signedOf s && eqb b (2 ^ (64 - k) - 1))) z) ∙ legal-is s a k (2 ^ (64 - k)) (signedOf s) hk h refl refl
+
+pub legal-ones : (s : Scheme) (a k p : ℕ) (g : Bool) → k ≡ freeBitsOf s → 0 < k → g ≡ signedOf s → (a / 2 ^ k ≡ 0 → ⊥) → p ≡ 2 ^ (64 - k) → (g && eqb (a / 2 ^ k) (p - 1)) ≡ legalOf s a
+legal-ones s a k p g hk h hg z e = ap (λ (b : Bool). b || (g && eqb (a / 2 ^ k) (p - 1))) (sym (ne-eqb (a / 2 ^ k) 0 z)) ∙ legal-is s a k p g hk h hg e
+
+pub ruleset legal-ways = (legal-zero, legal-ones)
 
 -- the index at the root, and below it
 module _ (s : Scheme) (a n l : ℕ) (hl : l ≡ levelsOf s) where

@@ -173,14 +173,17 @@ impl Scheme {
         width
     }
 
-    // Whether they are: all 0 or, where there is a sign, all 1. No branch: schemes come mixed.
+    // Whether they are: all 0, as most are in every scheme, or, where there is a sign, all 1. Facts first: after the branch the compiler would split by scheme.
     pub fn legal(self, a: u64) -> bool
         ensures { λ r. ⌜ r ≡ legalOf self a ⌝ }
     {
         let low = self.free_bits();
         let signed = self.signed();
         let top = a >> low;
-        (top == 0) | (signed & (top == power(64 - low) - 1))
+        if top == 0 {
+            return true;
+        }
+        signed & (top == power(64 - low) - 1)
     }
 
     // The entry of a level-n table that an address uses.

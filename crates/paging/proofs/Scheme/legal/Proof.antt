@@ -1,4 +1,4 @@
--- `Scheme::legal` meets its contract, by one law. Assumes nothing.
+-- `Scheme::legal` meets its contract: one law for each return. Assumes nothing.
 use Rattle.paging.proofs.Schemes.{legal-ways}
 use borrow.Author.Needs.{needs}
 use Rattle.paging.proofs.Scheme.legal.Statement.{statement}
@@ -13,6 +13,9 @@ signed-requires c κs = search needs
 shr-top : tie.Need-shr-top
 shr-top c = search needs
 
+returns : tie.Need-returns
+returns c = search (legal-ways, needs)
+
 sub-power : tie.Need-sub-power
 sub-power c = search needs
 
@@ -22,8 +25,8 @@ power-requires c κs = search needs
 sub-result : tie.Need-sub-result
 sub-result c = search needs
 
-returns : tie.Need-returns
-returns c = search (legal-ways, needs)
+returns-2 : tie.Need-returns-2
+returns-2 c = search (legal-ways, needs)
 
 pub legal-spec : {M : Type 1} → statement M
 legal-spec =
@@ -32,7 +35,8 @@ legal-spec =
     free-bits-requires
     signed-requires
     shr-top
+    returns
     sub-power
     power-requires
     sub-result
-    returns)
+    returns-2)
