@@ -1,6 +1,6 @@
 -- A page-table entry and its step, by the tests that the code makes. Assumes nothing.
-use Prim.Native.Nat.{ℕ, zero, suc, _+_, _*_, _/_, _%_, _^_, _<_, _≤_}
-use mathlib.Core.Bool.{Bool, true, false, not, _&&_, _||_}
+use Prim.Native.Nat.{ℕ, _+_, _*_, _/_, _%_, _^_, _<_, _≤_}
+use mathlib.Core.Bool.{Bool, true, false, not, _&&_}
 use mathlib.Core.Path.{_≡_, refl, sym, ap, _∙_}
 use native.Mathlib.Omega.{arith}
 use native.Mathlib.Nat.{mod-lt}
@@ -19,15 +19,16 @@ use Rattle.causes.specs.declared.FaultInfo.{FaultInfo}
 use Rattle.paging.specs.declared.Purpose.{Purpose}
 use Rattle.paging.specs.declared.Pages.{Pages}
 use Rattle.paging.specs.declared.Pages.the-variants.{User, Supervisor, Any}
+use Rattle.paging.specs.declared.LeafTest.{LeafTest}
 use Rattle.paging.specs.declared.Translation.the-variants.{To, Fault}
 use Rattle.paging.specs.declared.Step.{Step}
 use Rattle.paging.specs.declared.Step.the-variants.{Stop}
 use Rattle.paging.specs.declared.Raw.{Raw}
 use Rattle.paging.specs.declared.Raw.the-variants.{Arrive, Unread}
 use Rattle.paging.specs.Purpose.{pageFaultOf, accessFaultOf}
-use Rattle.causes.specs.Causes.{isWrite, isExecute}
-use Rattle.paging.specs.Tests.{soundBits, tableBits, permitOf, permitBits, leafBits, rawLoad, toStep, faultyEnd, toldBy}
-use Rattle.paging.specs.Entry.{leafOf, ownedBy, pagesFor}
+use Rattle.causes.specs.Causes.{isExecute}
+use Rattle.paging.specs.Tests.{soundBits, tableBits, accessBits, ownerMask, ownerWant, testOf, leafBits, rawLoad, toStep, faultyEnd, toldBy}
+use Rattle.paging.specs.Entry.{pagesFor}
 
 -- what a purpose's faults are
 pub page-fault-is : (p r : Purpose) (x : Access) (f : FaultInfo) → p ≡ r → f ≡ pageFaultOf r x → f ≡ pageFaultOf p x
@@ -54,28 +55,28 @@ offset-small a n span h e p = omega (arith, mod-lt a p, pow-mono {i = 12 + 9 * n
 pub ruleset offset-ways = (offset-is, offset-small)
 
 -- a loaded entry, by the tests that the code makes
-pub raw-violates : (x : Access) (pages : Pages) (a n : ℕ) (v : Load) → v ≡ Violation → Unread ≡ rawLoad x pages a n v
+pub raw-violates : (t : LeafTest) (a n : ℕ) (v : Load) → v ≡ Violation → Unread ≡ rawLoad t a n v
 unfolding rawLoad
-raw-violates x pages a n v e = sym (ap (rawLoad x pages a n) e)
+raw-violates t a n v e = sym (ap (rawLoad t a n) e)
 
-module _ (x : Access) (pages : Pages) (a n e : ℕ) (v : Load) (hv : v ≡ Value e) (b : Bool) (hb : b ≡ tableBits e) where
-  pub raw-points : b ≡ true → Raw.Next (e / 1024 % 17592186044416) ≡ rawLoad x pages a n v
+module _ (t : LeafTest) (a n e : ℕ) (v : Load) (hv : v ≡ Value e) (b : Bool) (hb : b ≡ tableBits e) where
+  pub raw-points : b ≡ true → Raw.Next (e / 1024 % 17592186044416) ≡ rawLoad t a n v
   unfolding rawLoad
-  raw-points t = simp (hv, ← hb, t)
+  raw-points y = simp (hv, ← hb, y)
 
-  module _ (o : b ≡ false) (f : Bool) (hf : f ≡ leafBits e pages x) where
-    pub raw-refuses : f ≡ false → Raw.Faulty ≡ rawLoad x pages a n v
+  module _ (o : b ≡ false) (f : Bool) (hf : f ≡ leafBits e t) where
+    pub raw-refuses : f ≡ false → Raw.Faulty ≡ rawLoad t a n v
     unfolding rawLoad
-    raw-refuses t = simp (hv, ← hb, o, ← hf, t)
+    raw-refuses y = simp (hv, ← hb, o, ← hf, y)
 
-    module _ (t : f ≡ true) (size k : ℕ) (hs : size ≡ 2 ^ k) (hk : k ≡ 9 * n) where
-      pub raw-misaligned : (e / 1024 % 17592186044416 % size ≡ 0 → ⊥) → Raw.Faulty ≡ rawLoad x pages a n v
+    module _ (y : f ≡ true) (size k : ℕ) (hs : size ≡ 2 ^ k) (hk : k ≡ 9 * n) where
+      pub raw-misaligned : (e / 1024 % 17592186044416 % size ≡ 0 → ⊥) → Raw.Faulty ≡ rawLoad t a n v
       unfolding rawLoad
-      raw-misaligned r = simp (hv, ← hb, o, ← hf, t, ne-eqb (e / 1024 % 17592186044416 % 2 ^ (9 * n)) 0 (simp (hs, hk) at r))
+      raw-misaligned r = simp (hv, ← hb, o, ← hf, y, ne-eqb (e / 1024 % 17592186044416 % 2 ^ (9 * n)) 0 (simp (hs, hk) at r))
 
-      pub raw-arrives : (off : ℕ) → off ≡ a % 2 ^ (12 + 9 * n) → e / 1024 % 17592186044416 % size ≡ 0 → Arrive (e / 1024 % 17592186044416 * 4096 + off) ≡ rawLoad x pages a n v
+      pub raw-arrives : (off : ℕ) → off ≡ a % 2 ^ (12 + 9 * n) → e / 1024 % 17592186044416 % size ≡ 0 → Arrive (e / 1024 % 17592186044416 * 4096 + off) ≡ rawLoad t a n v
       unfolding rawLoad
-      raw-arrives off h r = simp (hv, ← hb, o, ← hf, t, eq-eqb (e / 1024 % 17592186044416 % 2 ^ (9 * n)) 0 (simp (hs, hk) at r), h)
+      raw-arrives off h r = simp (hv, ← hb, o, ← hf, y, eq-eqb (e / 1024 % 17592186044416 % 2 ^ (9 * n)) 0 (simp (hs, hk) at r), h)
 
 pub ruleset entry-ways = (raw-violates, raw-points, raw-refuses, raw-misaligned, raw-arrives)
 
@@ -103,27 +104,6 @@ module _ (p : Purpose) (x : Access) (r : ℕ) where
 
 pub ruleset told-ways = (told-address, told-faulty, told-unread)
 
--- the joined tests
-one-of : (n : ℕ) → n < 2 → not (eqb n 0) ≡ eqb n 1
-one-of zero h = refl
-one-of (suc zero) h = refl
-one-of (suc (suc n)) h = absurd (omega arith)
-
-module _ (pages : Pages) (e : ℕ) where
-  kind-is : {kind : Pages} {b : Bool} → pages ≡ kind → b ≡ ownedBy kind (leafOf e) → b ≡ ownedBy pages (leafOf e)
-  kind-is t h = h ∙ sym (ap (λ (k : Pages). ownedBy k (leafOf e)) t)
-
-  pub bars-zero : pages ≡ User → not (eqb (e / 16 % 2) 0) ≡ ownedBy pages (leafOf e)
-  bars-zero t = kind-is t (one-of (e / 16 % 2) (omega arith))
-
-  pub bars-one : pages ≡ Supervisor → not (eqb (e / 16 % 2) 1) ≡ ownedBy pages (leafOf e)
-  bars-one t = kind-is t refl
-
-  pub bars-none : pages ≡ Any → not (eqb (e / 16 % 2) 2) ≡ ownedBy pages (leafOf e)
-  bars-none t = kind-is t (ap not (ne-eqb (e / 16 % 2) 2 (λ h. omega arith)))
-
-pub ruleset bar-ways = (bars-zero, bars-one, bars-none)
-
 -- the pages for a request, by the tests that the code makes
 pages-table : (v s : Bool) (x : Access) → pick v (pick (s && not (isExecute x)) Any Supervisor) User ≡ pagesFor v s x
 pages-table false s x = refl
@@ -150,29 +130,17 @@ pages-user v s x t = sym (ap (λ (k : Bool). pagesFor k s x) t)
 
 pub ruleset pages-ways = (pages-any, pages-own, pages-user)
 
-permit-table : (x : Access) (r w y d : Bool) → ((isExecute x || r) && (not (isWrite x) || (w && d)) && (not (isExecute x) || y) && (r || not w)) ≡ permitOf x r w y d
-permit-table Read true w y d = refl
-permit-table Read false w y d = refl
-permit-table Write true true y true = refl
-permit-table Write true true y false = refl
-permit-table Write true false y d = refl
-permit-table Write false w y d = refl
-permit-table Execute r w y d = refl
-
-pub permit-joined : (x : Access) (e : ℕ) (r w d y f g : Bool) → r ≡ bit e 1 → w ≡ bit e 2 → d ≡ bit e 7 → f ≡ isExecute x → g ≡ isWrite x → y ≡ bit e 3
-    → ((f || r) && (not g || (w && d)) && (not f || y) && (r || not w)) ≡ permitBits x e
-permit-joined x e r w d y f g hr hw hd hf hg hy = rw (hr, hw, hd, hf, hg, hy, permit-table x)
-
+-- the joined tests
 pub sound-is : (e : ℕ) (v : Bool) → v ≡ bit e 0 → (v && eqb (e / 18014398509481984 % 1024) 0) ≡ soundBits e
 sound-is e v h = simp h
 
-pub leaf-is : (e : ℕ) (pages : Pages) (x : Access) (s a o p : Bool) → s ≡ soundBits e → a ≡ bit e 6 → o ≡ ownedBy pages (leafOf e) → p ≡ permitBits x e → (s && a && o && p) ≡ leafBits e pages x
-unfolding leafBits
-leaf-is e pages x s a o p hs ha ho hp = simp (hs, ha, ho, hp)
+pub test-is : (x : Access) (pages : Pages) (n m w : ℕ) → n ≡ accessBits x → m ≡ ownerMask pages → w ≡ ownerWant pages
+    → _≡_ {A = LeafTest} (record { mask = 18428729675200069697 + n + m; want = 65 + n + w }) (testOf x pages)
+test-is x pages n m w hn hm hw = rw (hn, hm, hw)
 
 pub table-is : (e : ℕ) (s r w x u a d : Bool) → s ≡ soundBits e → r ≡ bit e 1 → w ≡ bit e 2 → x ≡ bit e 3 → u ≡ bit e 4 → a ≡ bit e 6 → d ≡ bit e 7
     → (s && not r && not w && not x && not u && not a && not d) ≡ tableBits e
 unfolding tableBits
 table-is e s r w x u a d hs hr hw hx hu ha hd = simp (hs, hr, hw, hx, hu, ha, hd)
 
-pub ruleset bit-ways = (sound-is, leaf-is, table-is)
+pub ruleset bit-ways = (sound-is, test-is, table-is)

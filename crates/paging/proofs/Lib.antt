@@ -1,5 +1,7 @@
 pub mod Schemes
 pub mod Entries
+pub mod Truth
+pub mod Masks
 pub mod Tested
 pub mod Turns
 pub mod Opening

@@ -28,7 +28,8 @@ use Rattle.paging.specs.Purpose.{askedOf}
 use Rattle.paging.specs.Entry.{pageOf, kindOf, entryOf, permits, ownedBy, allows, mappedBy}
 use Rattle.paging.specs.Levels.{faulted, onEntry, onLoad, onStep, entryAt, levelOf, levels, walkOf}
 use Rattle.paging.specs.Stages.{direct}
-use Rattle.paging.specs.Tests.{tableBits, permitOf, leafBits, rawLoad, toStep, toldOf, faultyEnd, codeOf, toldBy, onRaw, rawLevels, rawWalk, Tight}
+use Rattle.paging.proofs.Masks.{permitOf, leaf-bits}
+use Rattle.paging.specs.Tests.{testOf, tableBits, rawLoad, toStep, toldOf, faultyEnd, codeOf, toldBy, onRaw, rawLevels, rawWalk, Tight}
 
 -- an entry's step, for the access k that the page must permit
 abbrev onKind : Lookup → ℕ → Access → Entry → Step
@@ -106,17 +107,19 @@ module _ (q : Lookup) (n page : ℕ) where
   table-of-bits true true false false false false false false k = refl
 
 -- a loaded entry
-pub tested : (q : Lookup) (n : ℕ) (v : Load) → toStep (q .purpose) (q .access) (rawLoad (askedOf (q .purpose) (q .access)) (q .pages) (q .address) n v) ≡ onLoad q n v
-unfolding rawLoad onLoad entryOf tableBits leafBits
+pub tested : (q : Lookup) (n : ℕ) (v : Load) → toStep (q .purpose) (q .access) (rawLoad (testOf (askedOf (q .purpose) (q .access)) (q .pages)) (q .address) n v) ≡ onLoad q n v
+unfolding rawLoad onLoad entryOf tableBits
 tested q n Violation = refl
 tested q n (Value e) =
-    table-of-bits q n (pageOf e) (bit e 0) (eqb (e / 18014398509481984 % 1024) 0) (bit e 1) (bit e 2) (bit e 3) (bit e 4) (bit e 6) (bit e 7) (askedOf (q .purpose) (q .access))
+    let k = askedOf (q .purpose) (q .access) in
+    ap (λ (b : Bool). step q n (pageOf e) (pick (tableBits e) (Next (pageOf e)) (pick (b && al q n (pageOf e)) (Arrive (place q n (pageOf e))) Faulty))) (leaf-bits k (q .pages) e)
+    ∙ table-of-bits q n (pageOf e) (bit e 0) (eqb (e / 18014398509481984 % 1024) 0) (bit e 1) (bit e 2) (bit e 3) (bit e 4) (bit e 6) (bit e 7) (askedOf (q .purpose) (q .access))
     ∙ is-kind q n (entryOf e)
 
 -- a walk of entries that lie where their addresses say
 module _ (m : ℕ → Load) (s : Scheme) (q : Lookup) where
   abbrev raws : ℕ → ℕ → Walk Raw
-  raws n table = rawLevels s (askedOf (q .purpose) (q .access)) (q .pages) (q .address) n table
+  raws n table = rawLevels s (testOf (askedOf (q .purpose) (q .access)) (q .pages)) (q .address) n table
 
   raw-turn : (n : ℕ) → ((t : ℕ) → toldOf (q .purpose) (q .access) (run m (raws n t)) ≡ run m (levels s q direct n t))
       → (r : Raw) → toldOf (q .purpose) (q .access) (run m (onRaw (raws n) r)) ≡ run m (onStep (levels s q direct n) (toStep (q .purpose) (q .access) r))
@@ -129,10 +132,10 @@ module _ (m : ℕ → Load) (s : Scheme) (q : Lookup) where
   unfolding rawLevels levels levelOf
   raw-walk zero table = refl
   raw-walk (suc n) table =
-      raw-turn n (raw-walk n) (rawLoad (askedOf (q .purpose) (q .access)) (q .pages) (q .address) n (m (entryAt s q n table)))
+      raw-turn n (raw-walk n) (rawLoad (testOf (askedOf (q .purpose) (q .access)) (q .pages)) (q .address) n (m (entryAt s q n table)))
       ∙ ap (λ (k : Step). run m (onStep (levels s q direct n) k)) (tested q n (m (entryAt s q n table)))
 
-  pub raw-whole : (root : ℕ) → toldOf (q .purpose) (q .access) (run m (rawWalk s (askedOf (q .purpose) (q .access)) (q .pages) (q .address) root)) ≡ run m (walkOf s q direct root)
+  pub raw-whole : (root : ℕ) → toldOf (q .purpose) (q .access) (run m (rawWalk s (testOf (askedOf (q .purpose) (q .access)) (q .pages)) (q .address) root)) ≡ run m (walkOf s q direct root)
   unfolding rawWalk walkOf
   raw-whole root = go (legalOf s (q .address))
     where

@@ -27,10 +27,11 @@ use Rattle.paging.specs.Scheme.{levelsOf, legalOf, indexOf}
 use Rattle.paging.specs.Levels.{faulted, onLoad, onPlace, onStep, entryAt, levelOf, levels, walkOf}
 use Rattle.paging.specs.Stages.{direct, guestLookup, secondStageOf, entryReach, deviceLookup, firstStageOf}
 use Rattle.paging.specs.Within.{Near, Within, Small}
+use Rattle.paging.specs.declared.LeafTest.{LeafTest}
 use Rattle.paging.specs.declared.Raw.{Raw}
 use Rattle.paging.specs.declared.Raw.the-variants.{Arrive, Unread}
 use Rattle.paging.specs.Purpose.{askedOf, pageFaultOf, accessFaultOf}
-use Rattle.paging.specs.Tests.{rawLoad, toStep, toldOf, faultyEnd, unreadEnd, codeOf, toldBy, onRaw, rawLevels, rawWalk, Tight}
+use Rattle.paging.specs.Tests.{testOf, rawLoad, toStep, toldOf, faultyEnd, unreadEnd, codeOf, toldBy, onRaw, rawLevels, rawWalk, Tight}
 use Rattle.paging.proofs.Tested.{tested, raw-whole, coded}
 
 one-less : (left : ℕ) → 0 < left → suc (left - 1) ≡ left
@@ -54,12 +55,12 @@ module _ (m : ℕ → Load) (s : Scheme) (q : Lookup) (reach : ℕ → Walk Tran
 
 -- the second stage's walk, by the number of its end
 module _ (m : ℕ → Load) (g : PageTable) (p : Purpose) (x : Access) (a : ℕ) (h : g .on ≡ true) where
-  pub second-walks : (t : Translation) (k : Access) (n : ℕ) (r : Raw) → k ≡ askedOf p x
-      → r ≡ run m (rawWalk (g .scheme) k User a (g .root)) → Tight r → n ≡ codeOf r → t ≡ toldBy p x n → t ≡ run m (secondStageOf g p x a)
+  pub second-walks : (t : Translation) (k : Access) (l : LeafTest) (n : ℕ) (r : Raw) → k ≡ askedOf p x → l ≡ testOf k User
+      → r ≡ run m (rawWalk (g .scheme) l a (g .root)) → Tight r → n ≡ codeOf r → t ≡ toldBy p x n → t ≡ run m (secondStageOf g p x a)
   unfolding secondStageOf
-  second-walks t k n r hk hr ht hn e =
+  second-walks t k l n r hk hl hr ht hn e =
       e ∙ ap (toldBy p x) hn ∙ coded p x r ht
-      ∙ ap (toldOf p x) (hr ∙ ap (λ (y : Access). run m (rawWalk (g .scheme) y User a (g .root))) hk)
+      ∙ ap (toldOf p x) (hr ∙ ap (λ (y : LeafTest). run m (rawWalk (g .scheme) y a (g .root))) (hl ∙ ap (λ (y : Access). testOf y User) hk))
       ∙ raw-whole m (g .scheme) (guestLookup p x a) (g .root)
       ∙ simp h
 
@@ -71,21 +72,21 @@ told-stop p x r l = go (eqb r faultyEnd) refl
     go false z = (accessFaultOf p x, simp (le-ltb r faultyEnd l, z))
 
 -- a level whose entry lies at a guest address: `place` is the end of the second stage's walk
-module _ (m : ℕ → Load) (s : Scheme) (q : Lookup) (g : PageTable) (n table i place : ℕ) (w : Raw) (h : g .on ≡ true)
-    (hi : i ≡ indexOf s (q .address) n) (hw : w ≡ run m (rawWalk (g .scheme) Read User (table * 4096 + 8 * i) (g .root))) (hT : Tight w) (hp : place ≡ codeOf w) where
+module _ (m : ℕ → Load) (s : Scheme) (q : Lookup) (g : PageTable) (n table i place : ℕ) (w : Raw) (l : LeafTest) (h : g .on ≡ true) (hl : l ≡ testOf Read User)
+    (hi : i ≡ indexOf s (q .address) n) (hw : w ≡ run m (rawWalk (g .scheme) l (table * 4096 + 8 * i) (g .root))) (hT : Tight w) (hp : place ≡ codeOf w) where
   reached : (t : Translation) → t ≡ toldBy FirstStageEntry (q .access) place → t ≡ run m (entryReach g q (table * 4096 + 8 * i))
-  reached t e = second-walks m g FirstStageEntry (q .access) (table * 4096 + 8 * i) h t Read place w refl hw hT hp e
+  reached t e = second-walks m g FirstStageEntry (q .access) (table * 4096 + 8 * i) h t Read l place w refl hl hw hT hp e
 
   pub level-stops : (t : Translation) → faultyEnd ≤ place → t ≡ toldBy FirstStageEntry (q .access) place → Stop t ≡ run m (levelOf s q (entryReach g q) n table)
-  level-stops t l e =
-      let f = told-stop FirstStageEntry (q .access) place l in
+  level-stops t far e =
+      let f = told-stop FirstStageEntry (q .access) place far in
       stops m s q (entryReach g q) n table i t hi (reached t e) (f .0) (e ∙ f .1)
 
-  pub level-steps : (v : Load) (k : Access) (r : Raw) (x : Step) → place < faultyEnd → v ≡ m place
-      → k ≡ askedOf (q .purpose) (q .access) → r ≡ rawLoad k (q .pages) (q .address) n v → x ≡ toStep (q .purpose) (q .access) r → x ≡ run m (levelOf s q (entryReach g q) n table)
-  level-steps v k r x l hv hk hr hx =
-      loaded m s q (entryReach g q) n table i (To place) hi (reached (To place) (simp (lt-ltb place faultyEnd l))) place v x refl hv
-      (hx ∙ ap (toStep (q .purpose) (q .access)) (hr ∙ ap (λ (y : Access). rawLoad y (q .pages) (q .address) n v) hk) ∙ tested q n v)
+  pub level-steps : (v : Load) (t : LeafTest) (r : Raw) (x : Step) → place < faultyEnd → v ≡ m place
+      → t ≡ testOf (askedOf (q .purpose) (q .access)) (q .pages) → r ≡ rawLoad t (q .address) n v → x ≡ toStep (q .purpose) (q .access) r → x ≡ run m (levelOf s q (entryReach g q) n table)
+  level-steps v t r x near hv ht hr hx =
+      loaded m s q (entryReach g q) n table i (To place) hi (reached (To place) (simp (lt-ltb place faultyEnd near))) place v x refl hv
+      (hx ∙ ap (toStep (q .purpose) (q .access)) (hr ∙ ap (λ (y : LeafTest). rawLoad y (q .address) n v) ht) ∙ tested q n v)
 
 pub stop-small : (p : Purpose) (x : Access) (r : ℕ) (t : Translation) → faultyEnd ≤ r → t ≡ toldBy p x r → Near t
 stop-small p x r t l e = let f = told-stop p x r l in subst Near (sym (e ∙ f .1)) tt
@@ -102,17 +103,17 @@ step-small p x r t e h = subst Small (sym e) (small-of p x r h)
 pub ruleset level-ways = (level-stops, level-steps, stop-small, step-small)
 
 -- a turn of the walk of entries that lie where their addresses say
-module _ (m : ℕ → Load) (s : Scheme) (x : Access) (pages : Pages) (a left table i : ℕ) (v : Load) (r w : Raw)
-    (p : 0 < left) (hi : i ≡ indexOf s a (left - 1)) (hv : v ≡ m (table * 4096 + 8 * i)) (hr : r ≡ rawLoad x pages a (left - 1) v)
-    (hw : run m (rawLevels s x pages a left table) ≡ w) where
-  raw-turned : (k : Raw) → r ≡ k → run m (onRaw (rawLevels s x pages a (left - 1)) k) ≡ w
+module _ (m : ℕ → Load) (s : Scheme) (t : LeafTest) (a left table i : ℕ) (v : Load) (r w : Raw)
+    (p : 0 < left) (hi : i ≡ indexOf s a (left - 1)) (hv : v ≡ m (table * 4096 + 8 * i)) (hr : r ≡ rawLoad t a (left - 1) v)
+    (hw : run m (rawLevels s t a left table) ≡ w) where
+  raw-turned : (k : Raw) → r ≡ k → run m (onRaw (rawLevels s t a (left - 1)) k) ≡ w
   unfolding rawLevels
   raw-turned k e =
-      ap (λ (y : Raw). run m (onRaw (rawLevels s x pages a (left - 1)) y)) (sym e ∙ hr ∙ ap (rawLoad x pages a (left - 1)) (hv ∙ ap (λ (j : ℕ). m (table * 4096 + 8 * j)) hi))
-      ∙ ap (λ (k : ℕ). run m (rawLevels s x pages a k table)) (one-less left p)
+      ap (λ (y : Raw). run m (onRaw (rawLevels s t a (left - 1)) y)) (sym e ∙ hr ∙ ap (rawLoad t a (left - 1)) (hv ∙ ap (λ (j : ℕ). m (table * 4096 + 8 * j)) hi))
+      ∙ ap (λ (k : ℕ). run m (rawLevels s t a k table)) (one-less left p)
       ∙ hw
 
-  pub raw-goes : (k : ℕ) → r ≡ Raw.Next k → run m (rawLevels s x pages a (left - 1) k) ≡ w
+  pub raw-goes : (k : ℕ) → r ≡ Raw.Next k → run m (rawLevels s t a (left - 1) k) ≡ w
   raw-goes k e = raw-turned (Raw.Next k) e
 
   -- the end, as a number and in its bounds
@@ -134,10 +135,10 @@ module _ (m : ℕ → Load) (s : Scheme) (x : Access) (pages : Pages) (a left ta
   pub end-unread : r ≡ Unread → Tight w
   end-unread e = subst Tight (raw-turned Unread e) tt
 
-module _ (m : ℕ → Load) (s : Scheme) (x : Access) (pages : Pages) (a left table : ℕ) (w : Raw) (p : left ≤ 0) (hw : run m (rawLevels s x pages a left table) ≡ w) where
+module _ (m : ℕ → Load) (s : Scheme) (t : LeafTest) (a left table : ℕ) (w : Raw) (p : left ≤ 0) (hw : run m (rawLevels s t a left table) ≡ w) where
   no-leaf : Raw.Faulty ≡ w
   unfolding rawLevels
-  no-leaf = sym (ap (λ (k : ℕ). run m (rawLevels s x pages a k table)) (none-left left p)) ∙ hw
+  no-leaf = sym (ap (λ (k : ℕ). run m (rawLevels s t a k table)) (none-left left p)) ∙ hw
 
   pub code-ends : faultyEnd ≡ codeOf w
   code-ends = ap codeOf no-leaf
@@ -146,19 +147,19 @@ module _ (m : ℕ → Load) (s : Scheme) (x : Access) (pages : Pages) (a left ta
   end-ends = subst Tight no-leaf tt
 
 -- before the loop
-module _ (m : ℕ → Load) (s : Scheme) (x : Access) (pages : Pages) (a root : ℕ) (l : Bool) (hl : l ≡ legalOf s a) where
-  begun : {b : Bool} → l ≡ b → run m (pick b (rawLevels s x pages a (levelsOf s) root) (done Raw.Faulty)) ≡ run m (rawWalk s x pages a root)
+module _ (m : ℕ → Load) (s : Scheme) (t : LeafTest) (a root : ℕ) (l : Bool) (hl : l ≡ legalOf s a) where
+  begun : {b : Bool} → l ≡ b → run m (pick b (rawLevels s t a (levelsOf s) root) (done Raw.Faulty)) ≡ run m (rawWalk s t a root)
   unfolding rawWalk
-  begun e = ap (λ (b : Bool). run m (pick b (rawLevels s x pages a (levelsOf s) root) (done Raw.Faulty))) (sym e ∙ hl)
+  begun e = ap (λ (b : Bool). run m (pick b (rawLevels s t a (levelsOf s) root) (done Raw.Faulty))) (sym e ∙ hl)
 
-  pub raw-starts : (left : ℕ) → not l ≡ false → left ≡ levelsOf s → run m (rawLevels s x pages a left root) ≡ run m (rawWalk s x pages a root)
-  raw-starts left t h = ap (λ (k : ℕ). run m (rawLevels s x pages a k root)) h ∙ begun (not-false l t)
+  pub raw-starts : (left : ℕ) → not l ≡ false → left ≡ levelsOf s → run m (rawLevels s t a left root) ≡ run m (rawWalk s t a root)
+  raw-starts left y h = ap (λ (k : ℕ). run m (rawLevels s t a k root)) h ∙ begun (not-false l y)
 
-  pub code-illegal : not l ≡ true → faultyEnd ≡ codeOf (run m (rawWalk s x pages a root))
-  code-illegal t = ap codeOf (begun (not-true l t))
+  pub code-illegal : not l ≡ true → faultyEnd ≡ codeOf (run m (rawWalk s t a root))
+  code-illegal y = ap codeOf (begun (not-true l y))
 
-  pub end-illegal : not l ≡ true → Tight (run m (rawWalk s x pages a root))
-  end-illegal t = subst Tight (begun (not-true l t)) tt
+  pub end-illegal : not l ≡ true → Tight (run m (rawWalk s t a root))
+  end-illegal y = subst Tight (begun (not-true l y)) tt
 
 pub tight-next : (r : Raw) (k : ℕ) → r ≡ Raw.Next k → Tight r → k < 2 ^ 44
 tight-next r k e h = subst Tight e h
@@ -193,7 +194,11 @@ walk-starts m s q reach left root h = ap (λ (k : ℕ). run m (levels s q reach 
 pub small-next : (t : Step) (k : ℕ) → t ≡ Next k → Small t → k < 2 ^ 44
 small-next t k e h = subst Small e h
 
-pub ruleset walk-ways = (walk-stops, walk-goes, walk-ends, walk-starts, small-next)
+pub test-asked : (q : Lookup) (t : LeafTest) (k : Access) → t ≡ testOf k (q .pages) → k ≡ askedOf (q .purpose) (q .access)
+    → t ≡ testOf (askedOf (q .purpose) (q .access)) (q .pages)
+test-asked q t k h e = h ∙ ap (λ (y : Access). testOf y (q .pages)) e
+
+pub ruleset walk-ways = (walk-stops, walk-goes, walk-ends, walk-starts, small-next, test-asked)
 
 -- the two stages
 module _ (m : ℕ → Load) (g : PageTable) (p : Purpose) (x : Access) (a : ℕ) where
@@ -237,11 +242,11 @@ module _ (m : ℕ → Load) (f g : PageTable) (x : Access) (pages : Pages) (a : 
     first-walks l e = e ∙ simp (h, ← hl, l)
 
   -- "First-stage entries lie at guest addresses when the second stage is on", else where their addresses say
-  pub first-direct : (t : Translation) (n : ℕ) (r : Raw) → f .on ≡ true → g .on ≡ false → r ≡ run m (rawWalk (f .scheme) x pages a (f .root))
+  pub first-direct : (t : Translation) (l : LeafTest) (n : ℕ) (r : Raw) → f .on ≡ true → g .on ≡ false → l ≡ testOf x pages → r ≡ run m (rawWalk (f .scheme) l a (f .root))
       → Tight r → n ≡ codeOf r → t ≡ toldBy FirstStage x n → t ≡ run m (firstStageOf f g x pages a)
   unfolding firstStageOf
-  first-direct t n r h b e ht hn k =
-      k ∙ ap (toldBy FirstStage x) hn ∙ coded FirstStage x r ht ∙ ap (toldOf FirstStage x) e
+  first-direct t l n r h b hl e ht hn k =
+      k ∙ ap (toldBy FirstStage x) hn ∙ coded FirstStage x r ht ∙ ap (toldOf FirstStage x) (e ∙ ap (λ (y : LeafTest). run m (rawWalk (f .scheme) y a (f .root))) hl)
       ∙ raw-whole m (f .scheme) (deviceLookup x pages a) (f .root)
       ∙ ap (λ (reach : ℕ → Walk Translation). run m (walkOf (f .scheme) (deviceLookup x pages a) reach (f .root))) (sym (bare-reach g (deviceLookup x pages a) b))
       ∙ simp h

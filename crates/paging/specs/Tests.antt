@@ -1,6 +1,7 @@
--- The walk as the code makes it: an entry by tests of its bits joined by `&`, and steps that carry no cause. Nothing that a reader has to believe: `paging.Tested.tested`, `paging.Tested.raw-walk` and `paging.Tested.coded` show that it says what `Entry` and `Levels` say.
+-- The walk as the code makes it: a non-leaf by tests of its bits joined by `&`, a leaf by a mask made before the walk, and steps that carry no cause. Nothing that a reader has to believe: `paging.Tested.tested`, `paging.Tested.raw-walk` and `paging.Tested.coded` show that it says what `Entry` and `Levels` say.
 use Prim.Native.Nat.{ℕ, zero, suc, _+_, _-_, _*_, _/_, _%_, _^_, _<_}
-use mathlib.Core.Bool.{Bool, not, _&&_, _||_}
+use mathlib.Core.Bool.{Bool, not, _&&_}
+use lib.Bits.{bitAnd}
 use lib.Dec.{eqb, ltb}
 use Rattle.memory.specs.Choice.{pick}
 use Rattle.memory.specs.Bits.{bit}
@@ -12,6 +13,8 @@ use Rattle.causes.specs.declared.Access.the-variants.{Read, Write, Execute}
 use Rattle.paging.specs.declared.Scheme.{Scheme}
 use Rattle.paging.specs.declared.Purpose.{Purpose}
 use Rattle.paging.specs.declared.Pages.{Pages}
+use Rattle.paging.specs.declared.Pages.the-variants.{User, Supervisor, Any}
+use Rattle.paging.specs.declared.LeafTest.{LeafTest}
 use Rattle.paging.specs.declared.Translation.{Translation}
 use Rattle.paging.specs.declared.Translation.the-variants.{To, Fault}
 use Rattle.paging.specs.declared.Step.{Step}
@@ -20,7 +23,7 @@ use Rattle.paging.specs.declared.Raw.{Raw}
 use Rattle.paging.specs.declared.Raw.the-variants.{Arrive, Next, Faulty, Unread}
 use Rattle.paging.specs.Scheme.{levelsOf, addressBitsOf, signedOf, pageBitsOf, legalOf, indexOf}
 use Rattle.paging.specs.Purpose.{pageFaultOf, accessFaultOf}
-use Rattle.paging.specs.Entry.{pageOf, leafOf, ownedBy}
+use Rattle.paging.specs.Entry.{pageOf}
 
 -- from this bit on the bits of a legal address are alike: the highest translated bit is one of them where it is a sign
 abbrev pub freeBitsOf : Scheme → ℕ
@@ -34,25 +37,43 @@ soundBits e = bit e 0 && eqb (e / 18014398509481984 % 1024) 0
 unfoldable pub tableBits : ℕ → Bool
 tableBits e = soundBits e && not (bit e 1) && not (bit e 2) && not (bit e 3) && not (bit e 4) && not (bit e 6) && not (bit e 7)
 
--- a leaf that permits an access, by R, W, X and D
-abbrev pub permitOf : Access → Bool → Bool → Bool → Bool → Bool
-permitOf Read r w x d = r
-permitOf Write r w x d = r && w && d
-permitOf Execute r w x d = x && (r || not w)
+-- the bits that an access needs of a leaf: R; R, W, D; X
+abbrev pub accessBits : Access → ℕ
+accessBits Read = 2
+accessBits Write = 134
+accessBits Execute = 8
 
-abbrev pub permitBits : Access → ℕ → Bool
-permitBits x e = permitOf x (bit e 1) (bit e 2) (bit e 3) (bit e 7)
+-- U where the pages go by it
+abbrev pub ownerMask : Pages → ℕ
+ownerMask User = 16
+ownerMask Supervisor = 16
+ownerMask Any = 0
 
-unfoldable pub leafBits : ℕ → Pages → Access → Bool
-leafBits e pages x = soundBits e && bit e 6 && ownedBy pages (leafOf e) && permitBits x e
+-- U where it must be 1
+abbrev pub ownerWant : Pages → ℕ
+ownerWant User = 16
+ownerWant Supervisor = 0
+ownerWant Any = 0
 
--- what a loaded entry of level n leads to, where the page must permit x
-unfoldable pub rawLoad : Access → Pages → ℕ → ℕ → Load → Raw
-rawLoad x pages a n Violation = Unread
-rawLoad x pages a n (Value e) =
+-- V, A, none of bits 63:54, and what access and pages ask
+abbrev pub testOf : Access → Pages → LeafTest
+testOf x pages =
+    record {
+      mask = 18428729675200069697 + accessBits x + ownerMask pages;
+      want = 65 + accessBits x + ownerWant pages;
+    }
+
+-- a leaf that is used: it passes the test, and W isn't without R
+abbrev pub leafBits : ℕ → LeafTest → Bool
+leafBits e t = eqb (bitAnd e (t .mask)) (t .want) && not (eqb (bitAnd e 6) 4)
+
+-- what a loaded entry of level n leads to
+unfoldable pub rawLoad : LeafTest → ℕ → ℕ → Load → Raw
+rawLoad t a n Violation = Unread
+rawLoad t a n (Value e) =
     pick (tableBits e)
     (Next (pageOf e))
-    (pick (leafBits e pages x && eqb (pageOf e % 2 ^ (9 * n)) 0) (Arrive (pageOf e * 4096 + a % 2 ^ pageBitsOf n)) Faulty)
+    (pick (leafBits e t && eqb (pageOf e % 2 ^ (9 * n)) 0) (Arrive (pageOf e * 4096 + a % 2 ^ pageBitsOf n)) Faulty)
 
 -- with its cause
 abbrev pub toStep : Purpose → Access → Raw → Step
@@ -91,11 +112,11 @@ onRaw next Faulty = done Faulty
 onRaw next Unread = done Unread
 
 -- a walk of entries that lie where their addresses say
-module _ (s : Scheme) (x : Access) (pages : Pages) (a : ℕ) where
+module _ (s : Scheme) (t : LeafTest) (a : ℕ) where
   unfoldable pub rawLevels : ℕ → ℕ → Walk Raw
   unfolding rawLoad
   rawLevels zero table = done Faulty
-  rawLevels (suc n) table = load (table * 4096 + 8 * indexOf s a n) (λ v. onRaw (rawLevels n) (rawLoad x pages a n v))
+  rawLevels (suc n) table = load (table * 4096 + 8 * indexOf s a n) (λ v. onRaw (rawLevels n) (rawLoad t a n v))
 
   -- the whole of it, the address looked at first
   unfoldable pub rawWalk : ℕ → Walk Raw

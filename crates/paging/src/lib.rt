@@ -4,20 +4,19 @@ use causes::FaultInfo;
 use causes::Stage;
 use memory::Load;
 ghost use mathlib.Core.Path.{_≡_};
-ghost use mathlib.Core.Bool.{true, not};
-ghost use lib.Dec.{eqb};
-ghost use Prim.Native.Nat.{ℕ, _*_, _/_, _%_, _<_, _^_};
+ghost use mathlib.Core.Bool.{true};
+ghost use Prim.Native.Nat.{_*_, _%_, _<_, _^_};
 ghost use Rattle.memory.specs.Window.{memory};
 ghost use Rattle.memory.specs.Walk.{run};
 ghost use Rattle.causes.specs.Causes.{faultAt};
 ghost use Rattle.causes.specs.declared.Stage.the-variants.{Second};
 ghost use Rattle.paging.specs.Scheme.{levelsOf, rootBitsOf, addressBitsOf, signedOf, legalOf, pageBitsOf, indexOf};
 ghost use Rattle.paging.specs.Purpose.{askedOf, pageFaultOf, accessFaultOf};
-ghost use Rattle.paging.specs.Entry.{leafOf, ownedBy, pagesFor};
+ghost use Rattle.paging.specs.Entry.{pagesFor};
 ghost use Rattle.paging.specs.Levels.{faulted as faultedOf, levelOf, levels as levelsFrom};
 ghost use Rattle.paging.specs.Stages.{secondStageOf, entryReach, firstStageOf};
 ghost use Rattle.paging.specs.Within.{Within, Small};
-ghost use Rattle.paging.specs.Tests.{freeBitsOf, soundBits, tableBits, permitBits, leafBits, rawLoad, rawWalk, toStep, codeOf, toldBy, Tight};
+ghost use Rattle.paging.specs.Tests.{freeBitsOf, soundBits, tableBits, accessBits, ownerMask, ownerWant, testOf, leafBits, rawLoad, rawWalk, toStep, codeOf, toldBy, Tight};
 
 // The page-table schemes (01, "Fixed capabilities"; 02, Req 03).
 pub enum Scheme {
@@ -96,6 +95,12 @@ pub enum Raw {
     Next(u64),
     Faulty,
     Unread,
+}
+
+// What a walk asks of a leaf, as numbers: an entry's test then has no branch by access or pages, and no bit is picked out by itself.
+pub struct LeafTest {
+    pub mask: u64,
+    pub want: u64,
 }
 
 // What one level of a walk leads to.
@@ -238,39 +243,55 @@ pub fn pages_for(supervisor: bool, sum: bool, x: Access) -> Pages
     Pages::User
 }
 
-// The U bit that bars a page; 2, which it never is, where none does. A number, so that an entry's test has no branch.
-fn barred(pages: Pages) -> u64
-    ensures { λ r. ⌜ ((e : ℕ) → not (eqb (e / 16 % 2) r) ≡ ownedBy pages (leafOf e)) ⌝ }
+// The bits that an access needs of a leaf: R (2); with it W (4) and D (128), since nothing here marks a page as written; X (8).
+fn access_bits(x: Access) -> u64
+    ensures { λ r. ⌜ (r ≡ accessBits x) × (r < 256) ⌝ }
 {
-    match pages {
-        Pages::User => 0,
-        Pages::Supervisor => 1,
-        Pages::Any => 2,
+    match x {
+        Access::Read => 2,
+        Access::Write => 134,
+        Access::Execute => 8,
     }
 }
 
-fn owned(pages: Pages, e: u64) -> bool
-    ensures { λ r. ⌜ r ≡ ownedBy pages (leafOf e) ⌝ }
+// U (16) where the pages go by it.
+fn owner_mask(pages: Pages) -> u64
+    ensures { λ r. ⌜ (r ≡ ownerMask pages) × (r < 256) ⌝ }
 {
-    e / 16 % 2 != barred(pages)
+    match pages {
+        Pages::User => 16,
+        Pages::Supervisor => 16,
+        Pages::Any => 0,
+    }
 }
 
-// No branch by the access: reads and writes come mixed, and a branch would be guessed wrong.
-fn permitted(x: Access, e: u64) -> bool
-    ensures { λ r. ⌜ r ≡ permitBits x e ⌝ }
+// U where it must be 1.
+fn owner_want(pages: Pages) -> u64
+    ensures { λ r. ⌜ (r ≡ ownerWant pages) × (r < 256) ⌝ }
 {
-    let r = memory::bit(e, 1);
-    let w = memory::bit(e, 2);
-    let d = memory::bit(e, 7);
-    let execute = causes::is_execute(x);
-    (execute | r) & (!causes::is_write(x) | (w & d)) & (!execute | memory::bit(e, 3)) & (r | !w)
+    match pages {
+        Pages::User => 16,
+        Pages::Supervisor => 0,
+        Pages::Any => 0,
+    }
 }
 
-// A leaf whose page permits an access.
-fn is_leaf(e: u64, pages: Pages, x: Access) -> bool
-    ensures { λ r. ⌜ r ≡ leafBits e pages x ⌝ }
+// The test of a walk's leaves, made once for all levels: V and A (65), none of bits 63:54, and what access and pages ask.
+fn leaf_test(x: Access, pages: Pages) -> LeafTest
+    ensures { λ r. ⌜ r ≡ testOf x pages ⌝ }
 {
-    sound(e) & memory::bit(e, 6) & owned(pages, e) & permitted(x, e)
+    let needed = access_bits(x);
+    LeafTest {
+        mask: 18428729675200069697 + needed + owner_mask(pages),
+        want: 65 + needed + owner_want(pages),
+    }
+}
+
+// A leaf that may be used. W without R faults, also where the access needs neither.
+fn is_leaf(e: u64, t: LeafTest) -> bool
+    ensures { λ r. ⌜ r ≡ leafBits e t ⌝ }
+{
+    ((e & t.mask) == t.want) & ((e & 6) != 4)
 }
 
 // The access that the page must permit: an implicit access is a read.
@@ -350,9 +371,9 @@ fn zero_bits(n: u64) -> u64
 }
 
 // What a loaded entry of level n leads to.
-fn read_entry(x: Access, pages: Pages, a: u64, n: u64, v: Load) -> Raw
+fn read_entry(t: LeafTest, a: u64, n: u64, v: Load) -> Raw
     requires { ⌜ n < 5 ⌝ }
-    ensures { λ r. ⌜ (r ≡ rawLoad x pages a n v) × Tight r ⌝ }
+    ensures { λ r. ⌜ (r ≡ rawLoad t a n v) × Tight r ⌝ }
 {
     let Load::Value(e) = v else {
         return Raw::Unread;
@@ -361,7 +382,7 @@ fn read_entry(x: Access, pages: Pages, a: u64, n: u64, v: Load) -> Raw
     if is_table(e) {
         return Raw::Next(page);
     }
-    if is_leaf(e, pages, x) {
+    if is_leaf(e, t) {
         if page % power(zero_bits(n)) == 0 {
             return Raw::Arrive(page * 4096 + offset(a, n));
         }
@@ -376,9 +397,9 @@ const FAULTY: u64 = 9223372036854775808;
 const UNREAD: u64 = 9223372036854775809;
 
 // The walk of a table whose entries lie where their addresses say, the address looked at first. Its end is one number, so that it comes back in a register; causes come after it.
-fn descend(s: Scheme, x: Access, pages: Pages, a: u64, start: u64, window: &[u8], root: u64) -> u64
+fn descend(s: Scheme, t: LeafTest, a: u64, start: u64, window: &[u8], root: u64) -> u64
     requires { ⌜ root < 2 ^ 44 ⌝ }
-    ensures { λ r. ⌜ (r ≡ codeOf (run (memory start (now (window .entry))) (rawWalk s x pages a root))) × Tight (run (memory start (now (window .entry))) (rawWalk s x pages a root)) ⌝ }
+    ensures { λ r. ⌜ (r ≡ codeOf (run (memory start (now (window .entry))) (rawWalk s t a root))) × Tight (run (memory start (now (window .entry))) (rawWalk s t a root)) ⌝ }
 {
     if !s.legal(a) {
         return FAULTY;
@@ -388,7 +409,7 @@ fn descend(s: Scheme, x: Access, pages: Pages, a: u64, start: u64, window: &[u8]
     while 0 < left {
         left -= 1;
         let at = table * 4096 + 8 * s.index(a, left);
-        match read_entry(x, pages, a, left, memory::load64(start, window, at)) {
+        match read_entry(t, a, left, memory::load64(start, window, at)) {
             Raw::Next(next) => {
                 table = next;
             }
@@ -445,7 +466,14 @@ pub fn second_stage(
 {
     if g.on {
         let s = g.scheme;
-        let r = descend(s, asked(p, x), Pages::User, a, start, window, g.root);
+        let r = descend(
+            s,
+            leaf_test(asked(p, x), Pages::User),
+            a,
+            start,
+            window,
+            g.root,
+        );
         return told(p, x, r);
     }
     Translation::To(a)
@@ -455,29 +483,35 @@ pub fn second_stage(
 fn guest_level(
     s: Scheme,
     q: Lookup,
+    t: LeafTest,
     g: PageTable,
     start: u64,
     window: &[u8],
     n: u64,
     table: u64,
 ) -> Step
-    requires { ⌜ (n < 5) × (table < 2 ^ 44) × (g .on ≡ true) × (g .root < 2 ^ 44) ⌝ }
+    requires { ⌜ (n < 5) × (table < 2 ^ 44) × (g .on ≡ true) × (g .root < 2 ^ 44) × (t ≡ testOf (askedOf (q .purpose) (q .access)) (q .pages)) ⌝ }
     ensures { λ r. ⌜ (r ≡ run (memory start (now (window .entry))) (levelOf s q (entryReach g q) n table)) × Small r ⌝ }
 {
     let x = q.access;
     let at = table * 4096 + 8 * s.index(q.address, n);
     let guest = g.scheme;
-    let place = descend(guest, Access::Read, Pages::User, at, start, window, g.root);
+    let place = descend(
+        guest,
+        leaf_test(Access::Read, Pages::User),
+        at,
+        start,
+        window,
+        g.root,
+    );
     if FAULTY <= place {
         return Step::Stop(told(Purpose::FirstStageEntry, x, place));
     }
     let o = q.purpose;
-    let k = asked(o, x);
-    let pages = q.pages;
     stepped(
         o,
         x,
-        read_entry(k, pages, q.address, n, memory::load64(start, window, place)),
+        read_entry(t, q.address, n, memory::load64(start, window, place)),
     )
 }
 
@@ -492,13 +526,17 @@ fn guest_descend(
     requires { ⌜ (root < 2 ^ 44) × (g .on ≡ true) × (g .root < 2 ^ 44) ⌝ }
     ensures { λ r. ⌜ r ≡ run (memory start (now (window .entry))) (levelsFrom s q (entryReach g q) (levelsOf s) root) ⌝ }
 {
+    let o = q.purpose;
+    let x = q.access;
+    let pages = q.pages;
+    let t = leaf_test(asked(o, x), pages);
     let mut left = s.levels();
     let mut table = root;
     while 0 < left {
         left -= 1;
-        match guest_level(s, q, g, start, window, left, table) {
-            Step::Stop(t) => {
-                return t;
+        match guest_level(s, q, t, g, start, window, left, table) {
+            Step::Stop(end) => {
+                return end;
             }
             Step::Next(next) => {
                 table = next;
@@ -535,7 +573,7 @@ pub fn first_stage(
             }
             return faulted(q);
         }
-        let r = descend(s, x, pages, a, start, window, f.root);
+        let r = descend(s, leaf_test(x, pages), a, start, window, f.root);
         return told(Purpose::FirstStage, x, r);
     }
     Translation::To(a)

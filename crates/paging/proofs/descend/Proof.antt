@@ -10,12 +10,12 @@ use Rattle.paging.proofs.descend.Statement.{statement}
 use Rattle.paging.proofs.descend.Tie as tie
 
 abbrev Inv-loop : tie.InvT-loop
-Inv-loop s x pages a start window root left₀ table₀ left table =
+Inv-loop s t a start window root left₀ table₀ left table =
     (left < 6) × (table < 2 ^ 44)
-    × (run (memory start window) (rawLevels s x pages a left table) ≡ run (memory start window) (rawWalk s x pages a root))
+    × (run (memory start window) (rawLevels s t a left table) ≡ run (memory start window) (rawWalk s t a root))
 
 abbrev μ-loop : tie.MeasureT-loop
-μ-loop s x pages a start window root left₀ table₀ left table = left
+μ-loop s t a start window root left₀ table₀ left table = left
 
 legal-requires : tie.Need-legal-requires Inv-loop μ-loop
 legal-requires c κs = search needs

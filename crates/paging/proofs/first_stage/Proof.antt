@@ -19,6 +19,9 @@ faulted-requires c κs = search needs
 returns-2 : tie.Need-returns-2
 returns-2 c = search (first-ways, needs)
 
+leaf-test-requires : tie.Need-leaf-test-requires
+leaf-test-requires c κs = search needs
+
 descend-requires : tie.Need-descend-requires
 descend-requires c κs = search needs
 
@@ -40,6 +43,7 @@ first-stage-spec =
     returns
     faulted-requires
     returns-2
+    leaf-test-requires
     descend-requires
     told-requires
     returns-3

@@ -12,12 +12,18 @@ use Rattle.paging.proofs.guest_descend.Statement.{statement}
 use Rattle.paging.proofs.guest_descend.Tie as tie
 
 abbrev Inv-loop : tie.InvT-loop
-Inv-loop s q g start window root left₀ table₀ left table =
+Inv-loop s q g start window root t left₀ table₀ left table =
     (left < 6) × (table < 2 ^ 44)
     × (run (memory start window) (levels s q (entryReach g q) left table) ≡ run (memory start window) (levels s q (entryReach g q) (levelsOf s) root))
 
 abbrev μ-loop : tie.MeasureT-loop
-μ-loop s q g start window root left₀ table₀ left table = left
+μ-loop s q g start window root t left₀ table₀ left table = left
+
+asked-requires : tie.Need-asked-requires Inv-loop μ-loop
+asked-requires c κs = search needs
+
+leaf-test-requires : tie.Need-leaf-test-requires Inv-loop μ-loop
+leaf-test-requires c κs = search needs
 
 levels-requires : tie.Need-levels-requires Inv-loop μ-loop
 levels-requires c κs = search (walk-ways, needs)
@@ -31,8 +37,8 @@ sub-left c = search (walk-ways, needs)
 guest-level-requires : tie.Need-guest-level-requires Inv-loop μ-loop
 guest-level-requires c κs = search (walk-ways, needs)
 
-enum-known-t : tie.Need-enum-known-t Inv-loop μ-loop
-enum-known-t c = search (walk-ways, needs)
+enum-known-end : tie.Need-enum-known-end Inv-loop μ-loop
+enum-known-end c = search (walk-ways, needs)
 
 returns : tie.Need-returns Inv-loop μ-loop
 returns c = search (walk-ways, needs)
@@ -58,11 +64,13 @@ guest-descend-spec =
     (tie.spec
     Inv-loop
     μ-loop
+    asked-requires
+    leaf-test-requires
     levels-requires
     loop-holds
     sub-left
     guest-level-requires
-    enum-known-t
+    enum-known-end
     returns
     enum-known-next
     loop-less

@@ -16,6 +16,9 @@ mul-at-2 c = search needs
 add-at : tie.Need-add-at
 add-at c = search needs
 
+leaf-test-requires : tie.Need-leaf-test-requires
+leaf-test-requires c κs = search needs
+
 descend-requires : tie.Need-descend-requires
 descend-requires c κs = search needs
 
@@ -24,9 +27,6 @@ told-requires c κs = search needs
 
 returns : tie.Need-returns
 returns c = search (level-ways, needs)
-
-asked-requires : tie.Need-asked-requires
-asked-requires c κs = search needs
 
 load64-requires : tie.Need-load64-requires
 load64-requires c κs = search needs
@@ -48,10 +48,10 @@ guest-level-spec =
     index-requires
     mul-at-2
     add-at
+    leaf-test-requires
     descend-requires
     told-requires
     returns
-    asked-requires
     load64-requires
     read-entry-requires
     stepped-requires

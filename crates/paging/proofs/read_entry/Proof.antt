@@ -31,14 +31,14 @@ power-requires c κs = search needs
 rem-if3 : tie.Need-rem-if3
 rem-if3 c = search needs
 
-mul-t15 : tie.Need-mul-t15
-mul-t15 c = search needs
+mul-t14 : tie.Need-mul-t14
+mul-t14 c = search needs
 
 offset-requires : tie.Need-offset-requires
 offset-requires c κs = search needs
 
-add-t17 : tie.Need-add-t17
-add-t17 c = search needs
+add-t16 : tie.Need-add-t16
+add-t16 c = search needs
 
 returns-3 : tie.Need-returns-3
 returns-3 c = search (entry-ways, needs)
@@ -62,9 +62,9 @@ read-entry-spec =
     zero-bits-requires
     power-requires
     rem-if3
-    mul-t15
+    mul-t14
     offset-requires
-    add-t17
+    add-t16
     returns-3
     returns-4
     returns-5)

@@ -7,6 +7,9 @@ use Rattle.paging.proofs.second_stage.Tie as tie
 asked-requires : tie.Need-asked-requires
 asked-requires c κs = search needs
 
+leaf-test-requires : tie.Need-leaf-test-requires
+leaf-test-requires c κs = search needs
+
 descend-requires : tie.Need-descend-requires
 descend-requires c κs = search needs
 
@@ -21,4 +24,5 @@ returns-2 c = search (second-ways, needs)
 
 pub second-stage-spec : {M : Type 1} → statement M
 second-stage-spec =
-    tie.close (tie.spec asked-requires descend-requires told-requires returns returns-2)
+    tie.close
+    (tie.spec asked-requires leaf-test-requires descend-requires told-requires returns returns-2)
