@@ -5,3 +5,4 @@ pub mod Masks
 pub mod Tested
 pub mod Turns
 pub mod Opening
+pub mod Ranges

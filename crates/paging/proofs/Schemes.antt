@@ -16,19 +16,27 @@ use Rattle.paging.specs.Tests.{freeBitsOf}
 pub free-signed : (s : Scheme) (w : ℕ) (g : Bool) → w ≡ addressBitsOf s → g ≡ signedOf s → g ≡ true → w - 1 ≡ freeBitsOf s
 free-signed s w g hw hg t = simp (← hg, t, hw)
 
+-- no bit from k on is set in the first 2 to the power of k numbers
+pub none-set : (a k : ℕ) → eqb (a / 2 ^ k) 0 ≡ ltb a (2 ^ k)
+none-set a k = go (ltb a (2 ^ k)) refl
+  where
+    go : (b : Bool) → ltb a (2 ^ k) ≡ b → eqb (a / 2 ^ k) 0 ≡ b
+    go true t = eq-eqb (a / 2 ^ k) 0 (div-eq-of-lt (ltb-true a (2 ^ k) t))
+    go false t =
+        let q : 2 ^ k ≤ a = ltb-false a (2 ^ k) t in
+        ne-eqb (a / 2 ^ k) 0 (λ z. omega (arith, div-lt-iff-lt-mul {x = a} {y = 1} (pow-pos k) .0 (omega arith)))
+
+or-false : (b : Bool) → (b || false) ≡ b
+or-false true = refl
+or-false false = refl
+
 -- the bits of an address from k on, where a legal address's are alike: by whether there is a sign
 module _ (a w k p : ℕ) (h : 0 < k) (e : p ≡ 2 ^ (64 - k)) where
   legal-by : (g : Bool) → k ≡ pick g (w - 1) w → (eqb (a / 2 ^ k) 0 || (g && eqb (a / 2 ^ k) (p - 1))) ≡ pick g (signExtended w a) (ltb a (2 ^ w))
   legal-by true f =
       let n : 64 - k ≡ 65 - w = omega arith in
       simp (← f, e, n)
-  legal-by false f = go (ltb a (2 ^ k)) refl ∙ ap (λ (i : ℕ). ltb a (2 ^ i)) f
-    where
-      go : (b : Bool) → ltb a (2 ^ k) ≡ b → (eqb (a / 2 ^ k) 0 || false) ≡ ltb a (2 ^ k)
-      go true t = simp (t, div-eq-of-lt (ltb-true a (2 ^ k) t))
-      go false t =
-          let q : 1 * 2 ^ k ≤ a = omega (arith, ltb-false a (2 ^ k) t) in
-          simp (t, ne-eqb (a / 2 ^ k) 0 (λ z. omega (arith, div-lt-iff-lt-mul {x = a} {y = 1} (pow-pos k) .0 (omega arith))))
+  legal-by false f = or-false (eqb (a / 2 ^ k) 0) ∙ none-set a k ∙ ap (λ (i : ℕ). ltb a (2 ^ i)) f
 
 legal-is : (s : Scheme) (a k p : ℕ) (g : Bool) → k ≡ freeBitsOf s → 0 < k → g ≡ signedOf s → p ≡ 2 ^ (64 - k) → (eqb (a / 2 ^ k) 0 || (g && eqb (a / 2 ^ k) (p - 1))) ≡ legalOf s a
 unfolding legalOf

@@ -1,11 +1,16 @@
 -- The worked cases hold of the definitions: the checker computes each row. Assumes nothing.
-use Prim.Native.Nat.{_+_, _-_}
+use Prim.Native.Nat.{ℕ, _+_, _-_, _^_, _<_, _≤_}
+use mathlib.Core.Bool.{_||_}
 use mathlib.Core.Path.{_≡_, refl}
+use native.Mathlib.Omega.{arith}
 use lib.Count.{onesIn, ones}
+use lib.Dec.{ltb, leb}
+use Rattle.memory.specs.Choice.{pick}
 use Rattle.memory.specs.Window.{memory}
-use Rattle.paging.specs.Scheme.{levelsOf, rootBitsOf, addressBitsOf, pageBitsOf, legalOf, indexOf}
+use Rattle.paging.specs.Scheme.{levelsOf, rootBitsOf, addressBitsOf, signedOf, pageBitsOf, legalOf, indexOf}
 use Rattle.paging.specs.declared.Scheme.{Scheme}
 use Rattle.paging.specs.declared.Scheme.the-variants.{Sv39, Sv48, Sv57, Sv39x4, Sv48x4, Sv57x4}
+use Rattle.paging.proofs.Ranges.{legal-range}
 use Rattle.paging.specs.Entry.{entryOf, allows, mappedBy}
 use Rattle.paging.specs.Levels.{onLoad, levelOf, levels, walkOf}
 use Rattle.paging.specs.Stages.{secondStageOf, firstStageOf}
@@ -45,6 +50,19 @@ widths-add-up Sv57 = refl
 widths-add-up Sv39x4 = refl
 widths-add-up Sv48x4 = refl
 widths-add-up Sv57x4 = refl
+
+width-fits : (s : Scheme) → (0 < addressBitsOf s) × (addressBitsOf s ≤ 64)
+width-fits Sv39 = (omega arith, omega arith)
+width-fits Sv48 = (omega arith, omega arith)
+width-fits Sv57 = (omega arith, omega arith)
+width-fits Sv39x4 = (omega arith, omega arith)
+width-fits Sv48x4 = (omega arith, omega arith)
+width-fits Sv57x4 = (omega arith, omega arith)
+
+-- every legal address of every scheme: below half the scheme's width or in the last half of it below 2^64, where there is a sign; else below the limit
+pub legal-everywhere : (s : Scheme) (a : ℕ) → a < 2 ^ 64
+    → legalOf s a ≡ pick (signedOf s) (ltb a (2 ^ (addressBitsOf s - 1)) || leb (2 ^ 64 - 2 ^ (addressBitsOf s - 1)) a) (ltb a (2 ^ addressBitsOf s))
+legal-everywhere s a l = legal-range s a (width-fits s .0) (width-fits s .1) l
 
 pub larger-hold : Agrees larger
 unfolding memory legalOf indexOf entryOf allows mappedBy onLoad levelOf levels walkOf secondStageOf firstStageOf pointerOf pointers tooWide deviceMisconfigured deviceContextAt deviceContextOf processMisconfigured processContextAt processContextOf processTable firstTableOf recognised packed extract badWindow requestRefusal untranslated isMessage guestOf stagesOf directoryOf translateOf finish requestOf tables larger
