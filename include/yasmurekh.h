@@ -17,6 +17,11 @@
  * A pointer is never looked at where its length is 0 (and `out` never where its
  * length is too small), so NULL is fine there and nowhere else. An empty window
  * is legal: every table load then faults.
+ *
+ * Page tables: Sv39, Sv48 and Sv57 for the first stage, modes 8, 9 and 10 of fsc;
+ * Sv39x4, Sv48x4 and Sv57x4 for the second, the same modes of iohgatp, its root
+ * on 16 KiB. The two stages may have any pair of them. Guest addresses have 59
+ * bits, so the message mask and pattern have 47; their higher bits are reserved.
  */
 #ifndef YASMUREKH_H
 #define YASMUREKH_H

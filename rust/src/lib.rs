@@ -14,6 +14,10 @@
 //! | [`take`] | takes one pending interrupt | the bit that it names, where the answer is `Ok(true)` |
 //! | [`report`] | shows one interrupt file | nothing |
 //!
+//! Page tables may be Sv39, Sv48 or Sv57 for the first stage (modes 8, 9 and 10 of fsc) and Sv39x4,
+//! Sv48x4 or Sv57x4 for the second (those modes of iohgatp), in any pair. Guest addresses have 59
+//! bits, so the message mask and pattern have 47.
+//!
 //! # Example
 //!
 //! A device writes 37 to a page that its hypervisor has turned into an interrupt file. The window
