@@ -1,6 +1,5 @@
 pub mod Schemes
 pub mod Entries
-pub mod Truth
 pub mod Masks
 pub mod Tested
 pub mod Turns

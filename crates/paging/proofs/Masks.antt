@@ -15,7 +15,7 @@ use Rattle.paging.specs.declared.Pages.{Pages}
 use Rattle.paging.specs.declared.Pages.the-variants.{User, Supervisor, Any}
 use Rattle.paging.specs.Entry.{pageOf, ownedBy}
 use Rattle.paging.specs.Tests.{testOf, leafBits}
-use Rattle.paging.proofs.Truth.{Row, all, every, same, is-same}
+use Rattle.memory.proofs.Truth.{Row, all, every, same, is-same}
 
 -- numbers are equal where their last bits are and their halves
 halves : (p c w : ℕ) → c < 2 → eqb (p * 2 + c) w ≡ (eqb c (w % 2) && eqb p (w / 2))
