@@ -1,7 +1,6 @@
 -- Laws of the bits of a word. Assumes nothing.
 use mathlib.Core.Path.{_≡_, refl, sym, ap, ap₂, _∙_, subst}
 use mathlib.Core.Bool.{Bool, true, false, not, _&&_, _||_}
-
 use Prim.Native.Nat.{ℕ, zero, suc, _+_, _-_, _*_, _/_, _%_, _^_, _≤_, _<_, min, max}
 use native.Mathlib.Nat.{pow-suc, add-zero, add-suc, one-mul, mod-eq-of-lt, zero-mul, div-one, mul-one, mul-zero, zero-add, lt-of-lt-of-le}
 use native.Mathlib.Numerals.{one-add, add-one}
@@ -159,6 +158,7 @@ word-low (suc n) x =
 
 pub word-at : (k n x : ℕ) → x / 2 ^ k % 2 ^ n ≡ wordOf n (λ j. bit (k + j) x)
 word-at k n x = word-low n (x / 2 ^ k) ∙ word-ext n _ _ (λ j l. bit-shr j k x)
+
 -- ---- the lowest digit
 pub lowest-ext : (n k : ℕ) (f g : ℕ → Bool) → ((i : ℕ) → k ≤ i → i < k + n → f i ≡ g i) → lowest n k f ≡ lowest n k g
 unfolding lowest

@@ -2,7 +2,6 @@
 ghost use mathlib.Core.Path.{_≡_};
 ghost use mathlib.Core.Bool.{true, _&&_};
 ghost use Prim.Native.Nat.{ℕ, _<_};
-
 ghost use Rattle.memory.specs.Bits.{without as withoutOf};
 ghost use Rattle.word.specs.Word.{marks, putOf, setOf, half, inside, chosen, only, lowest};
 

@@ -1,0 +1,43 @@
+-- The registers of a domain by their offsets, after document 002, section 4.1.5, Table 1.
+use Prim.Native.Nat.{ℕ, _-_, _/_, _%_}
+use mathlib.Core.Bool.{true, false}
+use lib.Dec.{eqb, ltb}
+use Rattle.memory.specs.Choice.{pick}
+use Rattle.register.specs.declared.Register.{Register}
+use Rattle.register.specs.declared.Register.the-variants.{DomainCfg, SourceCfg, SetIp, SetIpNum, InClrIp, ClrIpNum, SetIe, SetIeNum, ClrIe, ClrIeNum, Target, Nothing}
+
+-- 0x1C00 to 0x1DDC: the pending bits
+unfoldable pub pendingRegister : ℕ → Register
+pendingRegister o =
+    pick (eqb o 0x1c00) (SetIp false)
+    (pick (eqb o 0x1c04) (SetIp true)
+    (pick (eqb o 0x1cdc) SetIpNum
+    (pick (eqb o 0x1d00) (InClrIp false)
+    (pick (eqb o 0x1d04) (InClrIp true)
+    (pick (eqb o 0x1ddc) ClrIpNum Nothing)))))
+
+-- 0x1E00 to 0x1FDC: the enable bits
+unfoldable pub enableRegister : ℕ → Register
+enableRegister o =
+    pick (eqb o 0x1e00) (SetIe false)
+    (pick (eqb o 0x1e04) (SetIe true)
+    (pick (eqb o 0x1edc) SetIeNum
+    (pick (eqb o 0x1f00) (ClrIe false)
+    (pick (eqb o 0x1f04) (ClrIe true)
+    (pick (eqb o 0x1fdc) ClrIeNum Nothing)))))
+
+-- "Undefined offsets, genmsi and setipnum_be read zero and ignore writes" (02): Nothing is at 0x2004 and 0x3000. Sources from 64 on "appear .. as being
+-- not implemented", the registers of message addresses are for machine-level domains only, setipnum_le (0x2000) "acts identically to setipnum", and only
+-- "naturally aligned" accesses count
+unfoldable pub registerOf : ℕ → Register
+registerOf o =
+    pick (eqb (o % 4) 0)
+    (pick (eqb o 0x0000) DomainCfg
+    (pick (ltb o 0x0100) (SourceCfg (o / 4))
+    (pick (ltb o 0x1e00) (pendingRegister o)
+    (pick (ltb o 0x2000) (enableRegister o)
+    (pick (eqb o 0x2000) SetIpNum
+    (pick (ltb o 0x3004) Nothing
+    (pick (ltb o 0x3100) (Target ((o - 0x3000) / 4))
+    Nothing)))))))
+    Nothing

@@ -1,0 +1,98 @@
+// The registers of a domain's control region.
+ghost use mathlib.Core.Path.{_≡_};
+ghost use Rattle.register.specs.Register.{pendingRegister, enableRegister, registerOf};
+
+// A `bool` says which of an array's two registers it is: true for sources 32 to 63.
+pub enum Register {
+    DomainCfg,
+    SourceCfg(u64),
+    SetIp(bool),
+    SetIpNum,
+    InClrIp(bool),
+    ClrIpNum,
+    SetIe(bool),
+    SetIeNum,
+    ClrIe(bool),
+    ClrIeNum,
+    Target(u64),
+    Nothing,
+}
+
+fn pending_register(offset: u64) -> Register
+    ensures { λ r. ⌜ r ≡ pendingRegister offset ⌝ }
+{
+    if offset == 0x1c00 {
+        return Register::SetIp(false);
+    }
+    if offset == 0x1c04 {
+        return Register::SetIp(true);
+    }
+    if offset == 0x1cdc {
+        return Register::SetIpNum;
+    }
+    if offset == 0x1d00 {
+        return Register::InClrIp(false);
+    }
+    if offset == 0x1d04 {
+        return Register::InClrIp(true);
+    }
+    if offset == 0x1ddc {
+        return Register::ClrIpNum;
+    }
+    Register::Nothing
+}
+
+fn enable_register(offset: u64) -> Register
+    ensures { λ r. ⌜ r ≡ enableRegister offset ⌝ }
+{
+    if offset == 0x1e00 {
+        return Register::SetIe(false);
+    }
+    if offset == 0x1e04 {
+        return Register::SetIe(true);
+    }
+    if offset == 0x1edc {
+        return Register::SetIeNum;
+    }
+    if offset == 0x1f00 {
+        return Register::ClrIe(false);
+    }
+    if offset == 0x1f04 {
+        return Register::ClrIe(true);
+    }
+    if offset == 0x1fdc {
+        return Register::ClrIeNum;
+    }
+    Register::Nothing
+}
+
+// The register at an offset; Nothing reads zero and ignores writes.
+pub fn register_at(offset: u64) -> Register
+    ensures { λ r. ⌜ r ≡ registerOf offset ⌝ }
+{
+    if offset % 4 != 0 {
+        return Register::Nothing;
+    }
+    if offset == 0 {
+        return Register::DomainCfg;
+    }
+    if offset < 0x100 {
+        return Register::SourceCfg(offset / 4);
+    }
+    if offset < 0x1e00 {
+        return pending_register(offset);
+    }
+    if offset < 0x2000 {
+        return enable_register(offset);
+    }
+    if offset == 0x2000 {
+        return Register::SetIpNum;
+    }
+    if offset < 0x3004 {
+        return Register::Nothing;
+    }
+    if offset < 0x3100 {
+        return Register::Target((offset - 0x3000) / 4);
+    }
+    Register::Nothing
+}

@@ -1,0 +1,234 @@
+// One interrupt source of an APLIC domain: its mode, its wire, its pending and enable bits, its target.
+ghost use mathlib.Core.Path.{_≡_};
+ghost use Rattle.source.specs.Source.{modeFrom, wiredOf, levelOf, lowOf, byNumber, modeOf, numberOf, rectified, activeOf, configuredPending, configured, aimed};
+ghost use Rattle.source.specs.Source.{configuredTarget, targetOf, aimedTarget};
+ghost use Rattle.source.specs.declared.Delivery.the-variants.{Message};
+
+// How a domain delivers interrupts. This domain's code is for Message; the rules of a source are stated over both.
+pub enum Delivery {
+    Direct,
+    Message,
+}
+
+pub enum Mode {
+    Inactive,
+    Detached,
+    Edge1,
+    Edge0,
+    Level1,
+    Level0,
+}
+
+pub struct Source {
+    pub mode: Mode,
+    pub wire: bool,
+    pub pending: bool,
+    pub enable: bool,
+    pub target: u32,
+}
+
+// From the three bits of a mode's number: attached to the wire, level-sensitive, the lowest bit.
+pub fn mode_from(wired: bool, level: bool, low: bool) -> Mode
+    ensures { λ r. ⌜ r ≡ modeFrom wired level low ⌝ }
+{
+    if wired {
+        if level {
+            if low {
+                return Mode::Level0;
+            }
+            return Mode::Level1;
+        }
+        if low {
+            return Mode::Edge0;
+        }
+        return Mode::Edge1;
+    }
+    if low {
+        return Mode::Detached;
+    }
+    Mode::Inactive
+}
+
+pub fn is_wired(m: Mode) -> bool
+    ensures { λ r. ⌜ r ≡ wiredOf m ⌝ }
+{
+    match m {
+        Mode::Inactive => false,
+        Mode::Detached => false,
+        Mode::Edge1 => true,
+        Mode::Edge0 => true,
+        Mode::Level1 => true,
+        Mode::Level0 => true,
+    }
+}
+
+pub fn is_level(m: Mode) -> bool
+    ensures { λ r. ⌜ r ≡ levelOf m ⌝ }
+{
+    match m {
+        Mode::Inactive => false,
+        Mode::Detached => false,
+        Mode::Edge1 => false,
+        Mode::Edge0 => false,
+        Mode::Level1 => true,
+        Mode::Level0 => true,
+    }
+}
+
+pub fn is_low(m: Mode) -> bool
+    ensures { λ r. ⌜ r ≡ lowOf m ⌝ }
+{
+    match m {
+        Mode::Inactive => false,
+        Mode::Detached => true,
+        Mode::Edge1 => false,
+        Mode::Edge0 => true,
+        Mode::Level1 => false,
+        Mode::Level0 => true,
+    }
+}
+
+pub fn number(m: Mode) -> u32
+    ensures { λ r. ⌜ r ≡ numberOf m ⌝ }
+{
+    match m {
+        Mode::Inactive => 0,
+        Mode::Detached => 1,
+        Mode::Edge1 => 4,
+        Mode::Edge0 => 5,
+        Mode::Level1 => 6,
+        Mode::Level0 => 7,
+    }
+}
+
+// 2 and 3 are reserved.
+fn by_number(n: u32) -> Mode
+    ensures { λ r. ⌜ r ≡ byNumber n ⌝ }
+{
+    if n == 1 {
+        return Mode::Detached;
+    }
+    if n == 4 {
+        return Mode::Edge1;
+    }
+    if n == 5 {
+        return Mode::Edge0;
+    }
+    if n == 6 {
+        return Mode::Level1;
+    }
+    if n == 7 {
+        return Mode::Level0;
+    }
+    Mode::Inactive
+}
+
+// The mode that a write of sourcecfg leaves: a leaf domain has no child to delegate to.
+pub fn mode_of(v: u32) -> Mode
+    ensures { λ r. ⌜ r ≡ modeOf v ⌝ }
+{
+    if v / 1024 % 2 == 1 {
+        return Mode::Inactive;
+    }
+    by_number(v % 8)
+}
+
+pub fn is_active(m: Mode) -> bool
+    ensures { λ r. ⌜ r ≡ activeOf m ⌝ }
+{
+    match m {
+        Mode::Inactive => false,
+        Mode::Detached => true,
+        Mode::Edge1 => true,
+        Mode::Edge0 => true,
+        Mode::Level1 => true,
+        Mode::Level0 => true,
+    }
+}
+
+pub fn rectify(m: Mode, wire: bool) -> bool
+    ensures { λ r. ⌜ r ≡ rectified m wire ⌝ }
+{
+    match m {
+        Mode::Inactive => false,
+        Mode::Detached => false,
+        Mode::Edge1 => wire,
+        Mode::Edge0 => !wire,
+        Mode::Level1 => wire,
+        Mode::Level0 => !wire,
+    }
+}
+
+// The pending bit after a write of sourcecfg, with the rectified input under the new mode.
+fn configure_pending(m: Mode, input: bool, pending: bool) -> bool
+    ensures { λ r. ⌜ r ≡ configuredPending m input pending ⌝ }
+{
+    match m {
+        Mode::Inactive => false,
+        Mode::Detached => pending,
+        Mode::Edge1 => input | pending,
+        Mode::Edge0 => input | pending,
+        Mode::Level1 => input,
+        Mode::Level0 => input,
+    }
+}
+
+// A source that is made active starts with target 0, and an inactive one has none.
+fn configure_target(old: Mode, new: Mode, target: u32) -> u32
+    ensures { λ r. ⌜ r ≡ configuredTarget Message old new target ⌝ }
+{
+    if is_active(new) {
+        if is_active(old) {
+            return target;
+        }
+    }
+    0
+}
+
+// Hart index, guest index and identity; bit 11 is reserved.
+fn target_of(v: u32) -> u32
+    ensures { λ r. ⌜ r ≡ targetOf Message v ⌝ }
+{
+    v / 0x1000 % 0x10_0000 * 0x1000 + v % 2048
+}
+
+// The target of an inactive source is read-only.
+fn aim_target(m: Mode, v: u32, target: u32) -> u32
+    ensures { λ r. ⌜ r ≡ aimedTarget Message m v target ⌝ }
+{
+    if is_active(m) {
+        return target_of(v);
+    }
+    target
+}
+
+impl Source {
+    // A write of sourcecfg.
+    pub fn configure(self, v: u32) -> Source
+        ensures { λ r. ⌜ r ≡ configured Message v self ⌝ }
+    {
+        let old = self.mode;
+        let m = mode_of(v);
+        Source {
+            mode: m,
+            wire: self.wire,
+            pending: configure_pending(m, rectify(m, self.wire), self.pending),
+            enable: is_active(m) & self.enable,
+            target: configure_target(old, m, self.target),
+        }
+    }
+
+    // A write of target.
+    pub fn aim(self, v: u32) -> Source
+        ensures { λ r. ⌜ r ≡ aimed Message v self ⌝ }
+    {
+        let m = self.mode;
+        Source {
+            mode: m,
+            wire: self.wire,
+            pending: self.pending,
+            enable: self.enable,
+            target: aim_target(m, v, self.target),
+        }
+    }
+}
