@@ -1,0 +1,42 @@
+-- Which table of separate sources the words stand for. Any words stand for one.
+use Prim.Native.Nat.{ℕ, _<_}
+use mathlib.Core.Bool.{Bool, _&&_}
+use mathlib.Core.Path.{_≡_}
+use Rattle.memory.specs.Choice.{pick}
+use Rattle.word.specs.Word.{marks, inside, lowest}
+use Rattle.source.specs.declared.Delivery.the-variants.{Message}
+use Rattle.source.specs.declared.Source.{Source}
+use Rattle.source.specs.Source.{modeFrom, inputOf}
+use Rattle.source.specs.Table.{Table, quiet}
+use Rattle.sources.specs.declared.Sources.{Sources}
+
+-- source i, with the target t that is kept for it
+unfoldable pub sourceOf : Sources → ℕ → ℕ → Source
+sourceOf s i t =
+    record {
+      mode = modeFrom (marks (s .wired) i) (marks (s .level) i) (marks (s .low) i);
+      wire = marks (s .wires) i;
+      pending = marks (s .pending) i;
+      enable = marks (s .enable) i;
+      target = t;
+    }
+
+-- the table, with the domain's enable and the sources' targets
+unfoldable pub tableWith : Bool → Sources → (ℕ → ℕ) → Table
+tableWith ie s targets = record { delivery = Message; enable = ie; row = λ i. pick (inside i) (sourceOf s i (targets i)) quiet }
+
+-- in r, each source that is chosen is what f makes of it, and each other one is as it was
+unfoldable pub Acts : (ℕ → Bool) → (Source → Source) → Sources → Sources → Type 0
+Acts sel f s r = (i t : ℕ) → 0 < i → i < 64 → sourceOf r i t ≡ pick (sel i) (f (sourceOf s i t)) (sourceOf s i t)
+
+-- all of s but the target
+abbrev pub lined : Source → Source → Source
+lined s x = record { mode = s .mode; wire = s .wire; pending = s .pending; enable = s .enable; target = x .target }
+
+-- w has the rectified inputs
+unfoldable pub Inputs : Sources → ℕ → Type 0
+Inputs s w = (i t : ℕ) → marks w i ≡ inputOf (sourceOf s i t)
+
+-- the lowest source that is pending and enabled, or 64
+unfoldable pub firstWaiting : Sources → ℕ
+firstWaiting s = lowest 63 1 (λ i. marks (s .pending) i && marks (s .enable) i)
