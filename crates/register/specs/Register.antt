@@ -3,28 +3,30 @@ use Prim.Native.Nat.{ℕ, _-_, _/_, _%_}
 use mathlib.Core.Bool.{true, false}
 use lib.Dec.{eqb, ltb}
 use Rattle.memory.specs.Choice.{pick}
+use Rattle.register.specs.declared.BitRegister.{BitRegister}
+use Rattle.register.specs.declared.BitRegister.the-variants.{SetIp, SetIpNum, InClrIp, ClrIpNum, SetIe, SetIeNum, ClrIe, ClrIeNum}
 use Rattle.register.specs.declared.Register.{Register}
-use Rattle.register.specs.declared.Register.the-variants.{DomainCfg, SourceCfg, SetIp, SetIpNum, InClrIp, ClrIpNum, SetIe, SetIeNum, ClrIe, ClrIeNum, Target, Nothing}
+use Rattle.register.specs.declared.Register.the-variants.{DomainCfg, SourceCfg, OfBits, Target, Nothing}
 
 -- 0x1C00 to 0x1DDC: the pending bits
 unfoldable pub pendingRegister : ℕ → Register
 pendingRegister o =
-    pick (eqb o 0x1c00) (SetIp false)
-    (pick (eqb o 0x1c04) (SetIp true)
-    (pick (eqb o 0x1cdc) SetIpNum
-    (pick (eqb o 0x1d00) (InClrIp false)
-    (pick (eqb o 0x1d04) (InClrIp true)
-    (pick (eqb o 0x1ddc) ClrIpNum Nothing)))))
+    pick (eqb o 0x1c00) (OfBits (SetIp false))
+    (pick (eqb o 0x1c04) (OfBits (SetIp true))
+    (pick (eqb o 0x1cdc) (OfBits SetIpNum)
+    (pick (eqb o 0x1d00) (OfBits (InClrIp false))
+    (pick (eqb o 0x1d04) (OfBits (InClrIp true))
+    (pick (eqb o 0x1ddc) (OfBits ClrIpNum) Nothing)))))
 
 -- 0x1E00 to 0x1FDC: the enable bits
 unfoldable pub enableRegister : ℕ → Register
 enableRegister o =
-    pick (eqb o 0x1e00) (SetIe false)
-    (pick (eqb o 0x1e04) (SetIe true)
-    (pick (eqb o 0x1edc) SetIeNum
-    (pick (eqb o 0x1f00) (ClrIe false)
-    (pick (eqb o 0x1f04) (ClrIe true)
-    (pick (eqb o 0x1fdc) ClrIeNum Nothing)))))
+    pick (eqb o 0x1e00) (OfBits (SetIe false))
+    (pick (eqb o 0x1e04) (OfBits (SetIe true))
+    (pick (eqb o 0x1edc) (OfBits SetIeNum)
+    (pick (eqb o 0x1f00) (OfBits (ClrIe false))
+    (pick (eqb o 0x1f04) (OfBits (ClrIe true))
+    (pick (eqb o 0x1fdc) (OfBits ClrIeNum) Nothing)))))
 
 -- "Undefined offsets, genmsi and setipnum_be read zero and ignore writes" (02): Nothing is at 0x2004 and 0x3000. Sources from 64 on "appear .. as being
 -- not implemented", the registers of message addresses are for machine-level domains only, setipnum_le (0x2000) "acts identically to setipnum", and only
@@ -36,7 +38,7 @@ registerOf o =
     (pick (ltb o 0x0100) (SourceCfg (o / 4))
     (pick (ltb o 0x1e00) (pendingRegister o)
     (pick (ltb o 0x2000) (enableRegister o)
-    (pick (eqb o 0x2000) SetIpNum
+    (pick (eqb o 0x2000) (OfBits SetIpNum)
     (pick (ltb o 0x3004) Nothing
     (pick (ltb o 0x3100) (Target ((o - 0x3000) / 4))
     Nothing)))))))

@@ -2,10 +2,8 @@
 ghost use mathlib.Core.Path.{_≡_};
 ghost use Rattle.register.specs.Register.{pendingRegister, enableRegister, registerOf};
 
-// A `bool` says which of an array's two registers it is: true for sources 32 to 63.
-pub enum Register {
-    DomainCfg,
-    SourceCfg(u64),
+// The registers of pending and enable bits. A `bool` says which of an array's two registers it is: true for sources 32 to 63.
+pub enum BitRegister {
     SetIp(bool),
     SetIpNum,
     InClrIp(bool),
@@ -14,6 +12,12 @@ pub enum Register {
     SetIeNum,
     ClrIe(bool),
     ClrIeNum,
+}
+
+pub enum Register {
+    DomainCfg,
+    SourceCfg(u64),
+    OfBits(BitRegister),
     Target(u64),
     Nothing,
 }
@@ -22,22 +26,22 @@ fn pending_register(offset: u64) -> Register
     ensures { λ r. ⌜ r ≡ pendingRegister offset ⌝ }
 {
     if offset == 0x1c00 {
-        return Register::SetIp(false);
+        return Register::OfBits(BitRegister::SetIp(false));
     }
     if offset == 0x1c04 {
-        return Register::SetIp(true);
+        return Register::OfBits(BitRegister::SetIp(true));
     }
     if offset == 0x1cdc {
-        return Register::SetIpNum;
+        return Register::OfBits(BitRegister::SetIpNum);
     }
     if offset == 0x1d00 {
-        return Register::InClrIp(false);
+        return Register::OfBits(BitRegister::InClrIp(false));
     }
     if offset == 0x1d04 {
-        return Register::InClrIp(true);
+        return Register::OfBits(BitRegister::InClrIp(true));
     }
     if offset == 0x1ddc {
-        return Register::ClrIpNum;
+        return Register::OfBits(BitRegister::ClrIpNum);
     }
     Register::Nothing
 }
@@ -46,22 +50,22 @@ fn enable_register(offset: u64) -> Register
     ensures { λ r. ⌜ r ≡ enableRegister offset ⌝ }
 {
     if offset == 0x1e00 {
-        return Register::SetIe(false);
+        return Register::OfBits(BitRegister::SetIe(false));
     }
     if offset == 0x1e04 {
-        return Register::SetIe(true);
+        return Register::OfBits(BitRegister::SetIe(true));
     }
     if offset == 0x1edc {
-        return Register::SetIeNum;
+        return Register::OfBits(BitRegister::SetIeNum);
     }
     if offset == 0x1f00 {
-        return Register::ClrIe(false);
+        return Register::OfBits(BitRegister::ClrIe(false));
     }
     if offset == 0x1f04 {
-        return Register::ClrIe(true);
+        return Register::OfBits(BitRegister::ClrIe(true));
     }
     if offset == 0x1fdc {
-        return Register::ClrIeNum;
+        return Register::OfBits(BitRegister::ClrIeNum);
     }
     Register::Nothing
 }
@@ -86,7 +90,7 @@ pub fn register_at(offset: u64) -> Register
         return enable_register(offset);
     }
     if offset == 0x2000 {
-        return Register::SetIpNum;
+        return Register::OfBits(BitRegister::SetIpNum);
     }
     if offset < 0x3004 {
         return Register::Nothing;

@@ -165,6 +165,16 @@ unfolding lowest
 lowest-ext zero k f g h = refl
 lowest-ext (suc n) k f g h = ap₂ (λ (b : Bool) (x : ℕ). pick b k x) (h k (omega arith) (omega arith)) (lowest-ext n (suc k) f g (λ i a b. h i (omega arith) (omega arith)))
 
+-- the lowest is k or more
+pub lowest-from : (n k : ℕ) (f : ℕ → Bool) → k ≤ lowest n k f
+unfolding lowest
+lowest-from zero k f = omega arith
+lowest-from (suc n) k f = go (f k) (lowest-from n (suc k) f)
+  where
+    go : (b : Bool) → suc k ≤ lowest n (suc k) f → k ≤ pick b k (lowest n (suc k) f)
+    go true h = omega arith
+    go false h = omega arith
+
 pub trailing-lowest : (n k x : ℕ) → k + trailingZeros n (x / 2 ^ k) ≡ lowest n k (λ i. bit i x)
 unfolding lowest trailingZeros marks
 trailing-lowest zero k x = add-zero k
@@ -209,6 +219,9 @@ bit-put i x n false l = bit-without i x (1 * 2 ^ n % 2 ^ 64) ∙ rw (bit-one i n
 -- ---- the halves
 upper : (x : ℕ) → x < 2 ^ 64 → x / 2 ^ 32 ≡ x / 2 ^ 32 % 2 ^ 32
 upper x h = omega arith
+
+pub half-ext : (high : Bool) (f g : ℕ → Bool) → ((i : ℕ) → f i ≡ g i) → half high f ≡ half high g
+half-ext high f g h = word-ext 32 _ _ (λ j l. h (pick high (32 + j) j))
 
 pub half-high : (x : ℕ) → x < 2 ^ 64 → x / 2 ^ 32 ≡ half true (λ i. inside i && bit i x)
 half-high x h = upper x h ∙ word-at 32 32 x ∙ word-ext 32 _ _ (λ j l. rw (is-inside (32 + j) (omega arith) (omega arith)))

@@ -1,0 +1,292 @@
+-- Tables of words and targets, wherever these are kept: what a change of the words makes of the table. Assumes nothing.
+use mathlib.Core.Path.{_≡_, refl, sym, ap, _∙_, fun-ext}
+use mathlib.Core.Bool.{Bool, true, false, not, _&&_}
+use Prim.Native.Nat.{ℕ, zero, suc, _+_, _<_, _≤_}
+use native.Mathlib.Omega.{arith}
+use borrow.Author.Tests.{eqb-true, ne-eqb, lt-ltb, le-ltb}
+use lib.Dec.{eqb, ltb}
+use Rattle.memory.specs.Choice.{pick}
+use Rattle.memory.proofs.Choices.{yes-is, no-is}
+use Rattle.word.specs.Word.{marks, inside, half, chosen, only, lowest}
+use Rattle.word.proofs.Bits.{within, is-inside, lowest-ext, lowest-from, half-ext}
+use Rattle.register.specs.declared.BitRegister.{BitRegister}
+use Rattle.register.specs.declared.BitRegister.the-variants.{SetIp, SetIpNum, InClrIp, ClrIpNum, SetIe, SetIeNum, ClrIe, ClrIeNum}
+use Rattle.register.specs.declared.Register.{Register}
+use Rattle.register.specs.declared.Register.the-variants.{DomainCfg, SourceCfg, OfBits, Target, Nothing}
+use Rattle.register.specs.Register.{registerOf}
+use Rattle.source.specs.declared.Delivery.{Delivery}
+use Rattle.source.specs.declared.Delivery.the-variants.{Message}
+use Rattle.source.specs.declared.Mode.{Mode}
+use Rattle.source.specs.declared.Mode.the-variants.{Inactive, Detached, Edge1, Edge0, Level1, Level0}
+use Rattle.source.specs.declared.Source.{Source}
+use Rattle.source.specs.Source.{clrip, delivered, pendingAfter, inputOf, sensed, raised, lowered, handed, allowed, configured, aimed, numberOf}
+use Rattle.source.specs.Table.{Table, quiet, act}
+use Rattle.sources.specs.declared.Sources.{Sources}
+use Rattle.sources.specs.Sources.{sourceOf, tableWith, Acts, Inputs, lined, firstWaiting}
+use Rattle.aplic.specs.declared.Msi.{Msi}
+use Rattle.aplic.specs.declared.Sent.the-variants.{Idle, Forwarded}
+use Rattle.aplic.specs.Calls.{concerned, change, readBits, waiting, topOf, forwards, sends, forwardTable, sentOf, msiOf, wireTable, wireRefusal}
+use Rattle.aplic.specs.Domain.{Shows}
+
+pub same-table : (d e : Delivery) (x y : Bool) (f g : ℕ → Source) → d ≡ e → x ≡ y → ((i : ℕ) → f i ≡ g i)
+    → _≡_ {A = Table} (record { delivery = d; enable = x; row = f }) (record { delivery = e; enable = y; row = g })
+same-table d e x y f g p q r = let h : f ≡ g = fun-ext r in rw (p, q, h)
+
+-- ---- sources chosen in two ways
+pub acts-ext : (sel sel′ : ℕ → Bool) (f : Source → Source) (s r : Sources) → ((i : ℕ) → inside i ≡ true → sel i ≡ sel′ i) → Acts sel f s r → Acts sel′ f s r
+unfolding Acts
+acts-ext sel sel′ f s r h a i t p q = a i t p q ∙ ap (λ (b : Bool). pick b (f (sourceOf s i t)) (sourceOf s i t)) (h i (is-inside i p q))
+
+-- ---- the arms of a write to a register of bits
+module _ (s r : Sources) (v mask : ℕ) (b : BitRegister) where
+  arm : (sel : ℕ → Bool) (f : Source → Source) → ((i : ℕ) → inside i ≡ true → marks mask i ≡ sel i) → sel ≡ concerned b v → f ≡ change Message b → Acts (marks mask) f s r → Acts (concerned b v) (change Message b) s r
+  arm sel f h p q a = rw (sym p, sym q) (acts-ext (marks mask) sel f s r h a)
+
+  module _ (high : Bool) (h : (i : ℕ) → inside i ≡ true → marks mask i ≡ chosen high v i) where
+    pub arm-setip : b ≡ SetIp high → Acts (marks mask) (raised Message) s r → Acts (concerned b v) (change Message b) s r
+    unfolding concerned change
+    arm-setip e a = arm (chosen high v) (raised Message) h (ap (λ (x : BitRegister). concerned x v) (sym e)) (ap (change Message) (sym e)) a
+
+    pub arm-clrip : b ≡ InClrIp high → Acts (marks mask) (lowered Message) s r → Acts (concerned b v) (change Message b) s r
+    unfolding concerned change
+    arm-clrip e a = arm (chosen high v) (lowered Message) h (ap (λ (x : BitRegister). concerned x v) (sym e)) (ap (change Message) (sym e)) a
+
+    pub arm-setie : b ≡ SetIe high → Acts (marks mask) (allowed true) s r → Acts (concerned b v) (change Message b) s r
+    unfolding concerned change
+    arm-setie e a = arm (chosen high v) (allowed true) h (ap (λ (x : BitRegister). concerned x v) (sym e)) (ap (change Message) (sym e)) a
+
+    pub arm-clrie : b ≡ ClrIe high → Acts (marks mask) (allowed false) s r → Acts (concerned b v) (change Message b) s r
+    unfolding concerned change
+    arm-clrie e a = arm (chosen high v) (allowed false) h (ap (λ (x : BitRegister). concerned x v) (sym e)) (ap (change Message) (sym e)) a
+
+  module _ (h : (i : ℕ) → inside i ≡ true → marks mask i ≡ only v i) where
+    pub arm-setipnum : b ≡ SetIpNum → Acts (marks mask) (raised Message) s r → Acts (concerned b v) (change Message b) s r
+    unfolding concerned change
+    arm-setipnum e a = arm (only v) (raised Message) h (ap (λ (x : BitRegister). concerned x v) (sym e)) (ap (change Message) (sym e)) a
+
+    pub arm-clripnum : b ≡ ClrIpNum → Acts (marks mask) (lowered Message) s r → Acts (concerned b v) (change Message b) s r
+    unfolding concerned change
+    arm-clripnum e a = arm (only v) (lowered Message) h (ap (λ (x : BitRegister). concerned x v) (sym e)) (ap (change Message) (sym e)) a
+
+    pub arm-setienum : b ≡ SetIeNum → Acts (marks mask) (allowed true) s r → Acts (concerned b v) (change Message b) s r
+    unfolding concerned change
+    arm-setienum e a = arm (only v) (allowed true) h (ap (λ (x : BitRegister). concerned x v) (sym e)) (ap (change Message) (sym e)) a
+
+    pub arm-clrienum : b ≡ ClrIeNum → Acts (marks mask) (allowed false) s r → Acts (concerned b v) (change Message b) s r
+    unfolding concerned change
+    arm-clrienum e a = arm (only v) (allowed false) h (ap (λ (x : BitRegister). concerned x v) (sym e)) (ap (change Message) (sym e)) a
+
+pub ruleset bit-arms = (arm-setip, arm-clrip, arm-setie, arm-clrie, arm-setipnum, arm-clripnum, arm-setienum, arm-clrienum)
+
+-- ---- what a register of bits shows
+field-row : (s : Sources) (ie : Bool) (targets : ℕ → ℕ) (p : Source → Bool) (i : ℕ) → p quiet ≡ false → inside i && p (sourceOf s i (targets i)) ≡ p (tableWith ie s targets .row i)
+unfolding tableWith
+field-row s ie targets p i z = go (inside i)
+  where
+    go : (b : Bool) → b && p (sourceOf s i (targets i)) ≡ p (pick b (sourceOf s i (targets i)) quiet)
+    go true = refl
+    go false = sym z
+
+module _ (s : Sources) (b : BitRegister) (x : ℕ) where
+  shown : (c : BitRegister) → b ≡ c → Shows c s x → Shows b s x
+  shown c e h = rw e h
+
+  module _ (high : Bool) where
+    pub show-pending : b ≡ SetIp high → x ≡ half high (λ i. inside i && marks (s .pending) i) → Shows b s x
+    unfolding Shows readBits sourceOf
+    show-pending e h = shown (SetIp high) e (λ ie targets. h ∙ half-ext high _ _ (λ i. row ie targets i))
+      where
+        row : (ie : Bool) (targets : ℕ → ℕ) (i : ℕ) → inside i && marks (s .pending) i ≡ tableWith ie s targets .row i .pending
+        row ie targets i = field-row s ie targets (λ y. y .pending) i refl
+
+    pub show-enable : b ≡ SetIe high → x ≡ half high (λ i. inside i && marks (s .enable) i) → Shows b s x
+    unfolding Shows readBits sourceOf
+    show-enable e h = shown (SetIe high) e (λ ie targets. h ∙ half-ext high _ _ (λ i. row ie targets i))
+      where
+        row : (ie : Bool) (targets : ℕ → ℕ) (i : ℕ) → inside i && marks (s .enable) i ≡ tableWith ie s targets .row i .enable
+        row ie targets i = field-row s ie targets (λ y. y .enable) i refl
+
+    pub show-inputs : (w : ℕ) → Inputs s w → b ≡ InClrIp high → x ≡ half high (λ i. inside i && marks w i) → Shows b s x
+    unfolding Shows readBits Inputs
+    show-inputs w k e h =
+        shown (InClrIp high) e (λ ie targets. h ∙ half-ext high _ _ (λ i. ap (λ (c : Bool). inside i && c) (k i (targets i)) ∙ field-row s ie targets inputOf i refl))
+
+  pub show-setipnum : b ≡ SetIpNum → x ≡ 0 → Shows b s x
+  unfolding Shows readBits
+  show-setipnum e h = shown SetIpNum e (λ ie targets. h)
+
+  pub show-clripnum : b ≡ ClrIpNum → x ≡ 0 → Shows b s x
+  unfolding Shows readBits
+  show-clripnum e h = shown ClrIpNum e (λ ie targets. h)
+
+  pub show-setienum : b ≡ SetIeNum → x ≡ 0 → Shows b s x
+  unfolding Shows readBits
+  show-setienum e h = shown SetIeNum e (λ ie targets. h)
+
+  pub show-clrie : (high : Bool) → b ≡ ClrIe high → x ≡ 0 → Shows b s x
+  unfolding Shows readBits
+  show-clrie high e h = shown (ClrIe high) e (λ ie targets. h)
+
+  pub show-clrienum : b ≡ ClrIeNum → x ≡ 0 → Shows b s x
+  unfolding Shows readBits
+  show-clrienum e h = shown ClrIeNum e (λ ie targets. h)
+
+pub ruleset shows = (show-pending, show-enable, show-inputs, show-setipnum, show-clripnum, show-setienum, show-clrie, show-clrienum)
+
+-- ---- a table's rows
+module _ (ie : Bool) (s r : Sources) (targets : ℕ → ℕ) where
+  pub row-at : (n : ℕ) → 0 < n → n < 64 → sourceOf s n (targets n) ≡ tableWith ie s targets .row n
+  unfolding tableWith
+  row-at n a b = rw (is-inside n a b)
+
+  pub acts-table : (sel : ℕ → Bool) (f : Source → Source) → Acts sel f s r → tableWith ie r targets ≡ act sel f (tableWith ie s targets)
+  unfolding tableWith Acts
+  acts-table sel f a = same-table _ _ _ _ _ _ refl refl (λ i. go i (inside i) refl)
+    where
+      go : (i : ℕ) (b : Bool) → inside i ≡ b
+          → pick b (sourceOf r i (targets i)) quiet ≡ pick (b && sel i) (f (pick b (sourceOf s i (targets i)) quiet)) (pick b (sourceOf s i (targets i)) quiet)
+      go i true k = let w = within i k in a i (targets i) (w .0) (w .1)
+      go i false k = refl
+
+  -- one source is changed, its target too
+  module _ (targets′ : ℕ → ℕ) (n : ℕ) (f : Source → Source) (x : Source) (hx : x ≡ f (sourceOf s n (targets n))) (ht : (i : ℕ) → targets′ i ≡ pick (eqb i n) (x .target) (targets i)) where
+    one-table : ((i : ℕ) → 0 < i → i < 64 → sourceOf r i (targets′ i) ≡ pick (eqb i n) x (sourceOf s i (targets i))) → tableWith ie r targets′ ≡ act (only n) f (tableWith ie s targets)
+    unfolding tableWith only
+    one-table h = same-table _ _ _ _ _ _ refl refl (λ i. go i (inside i) refl)
+      where
+        at : (i : ℕ) (c : Bool) → eqb i n ≡ c → pick c x (sourceOf s i (targets i)) ≡ pick c (f (sourceOf s i (targets i))) (sourceOf s i (targets i))
+        at i true e = hx ∙ ap (λ (j : ℕ). f (sourceOf s j (targets j))) (sym (eqb-true i n e))
+        at i false e = refl
+
+        go : (i : ℕ) (b : Bool) → inside i ≡ b
+            → pick b (sourceOf r i (targets′ i)) quiet ≡ pick (b && eqb i n) (f (pick b (sourceOf s i (targets i)) quiet)) (pick b (sourceOf s i (targets i)) quiet)
+        go i true k = let w = within i k in h i (w .0) (w .1) ∙ at i (eqb i n) refl
+        go i false k = refl
+
+    pub configured-table : Acts (only n) (lined x) s r → tableWith ie r targets′ ≡ act (only n) f (tableWith ie s targets)
+    unfolding Acts only sourceOf
+    configured-table a = one-table (λ i p q. a i (targets′ i) p q ∙ rw (ht i) (go i (eqb i n)))
+      where
+        go : (i : ℕ) (c : Bool)
+            → pick c (lined x (sourceOf s i (pick c (x .target) (targets i)))) (sourceOf s i (pick c (x .target) (targets i))) ≡ pick c x (sourceOf s i (targets i))
+        go i true = refl
+        go i false = refl
+
+-- one source's target alone is changed
+pub aimed-table : (ie : Bool) (s : Sources) (targets targets′ : ℕ → ℕ) (n v : ℕ) (x : Source) → x ≡ aimed Message v (sourceOf s n (targets n)) → ((i : ℕ) → targets′ i ≡ pick (eqb i n) (x .target) (targets i))
+    → tableWith ie s targets′ ≡ act (only n) (aimed Message v) (tableWith ie s targets)
+unfolding sourceOf aimed
+aimed-table ie s targets targets′ n v x hx ht = one-table ie s s targets targets′ n (aimed Message v) x hx ht (λ i p q. rw (ht i) (go i (eqb i n) refl))
+  where
+    go : (i : ℕ) (c : Bool) → eqb i n ≡ c → sourceOf s i (pick c (x .target) (targets i)) ≡ pick c x (sourceOf s i (targets i))
+    go i true e = rw (eqb-true i n e, hx)
+    go i false e = refl
+
+-- what is no source's is left alone
+pub outside : (n : ℕ) (f : Source → Source) (t : Table) → inside n ≡ false → t ≡ act (only n) f t
+unfolding only
+outside n f t h = same-table _ _ _ _ _ _ refl refl (λ i. go i (eqb i n) refl)
+  where
+    go : (i : ℕ) (c : Bool) → eqb i n ≡ c → t .row i ≡ pick (inside i && c) (f (t .row i)) (t .row i)
+    go i true e = rw (eqb-true i n e, h)
+    go i false e = both (inside i)
+      where
+        both : (b : Bool) → t .row i ≡ pick (b && false) (f (t .row i)) (t .row i)
+        both true = refl
+        both false = refl
+
+-- a wire
+module _ (ie : Bool) (s : Sources) (targets : ℕ → ℕ) (n : ℕ) (level : Bool) where
+  pub wired-table : (mask : ℕ) (r : Sources) → ((i : ℕ) → inside i ≡ true → marks mask i ≡ only n i) → Acts (marks mask) (sensed Message level) s r → tableWith ie r targets ≡ wireTable n level (tableWith ie s targets)
+  unfolding wireTable tableWith
+  wired-table mask r h a = acts-table ie s r targets (only n) (sensed Message level) (acts-ext (marks mask) (only n) (sensed Message level) s r h a)
+
+refused-outside : (n r : ℕ) → r ≡ wireRefusal n → (r ≡ 0 → ⊥) → inside n ≡ false
+unfolding wireRefusal
+refused-outside n r e z = go (inside n) e
+  where
+    go : (b : Bool) → r ≡ pick b 0 2014 → b ≡ false
+    go true p = absurd (z p)
+    go false p = refl
+
+pub unwired-table : (t : Table) (n r : ℕ) (level : Bool) → r ≡ wireRefusal n → (r ≡ 0 → ⊥) → t ≡ wireTable n level t
+unfolding wireTable
+unwired-table t n r level e z = outside n (sensed (t .delivery) level) t (refused-outside n r e z)
+
+-- a forward with nothing to send
+pub kept-table : (t : Table) → sends t ≡ false → t ≡ forwardTable t
+unfolding forwardTable
+kept-table t e = no-is _ _ _ _ e refl
+
+pub kept-sent : (t : Table) → sends t ≡ false → Idle ≡ sentOf t
+unfolding sentOf
+kept-sent t e = no-is _ _ _ _ e refl
+
+-- a forward clears as a write of in_clrip does
+handed-is : lowered Message ≡ handed Message
+unfolding lowered handed
+handed-is = fun-ext (λ s. ap (λ (p : Bool). record { mode = s .mode; wire = s .wire; pending = p; enable = s .enable; target = s .target }) (go (s .mode) (s .pending)))
+  where
+    go : (m : Mode) (p : Bool) → pendingAfter Message m clrip p ≡ pendingAfter Message m delivered p
+    go Inactive p = refl
+    go Detached p = refl
+    go Edge1 p = refl
+    go Edge0 p = refl
+    go Level1 p = refl
+    go Level0 p = refl
+
+module _ (ie : Bool) (s : Sources) (targets : ℕ → ℕ) where
+  pub top-is : firstWaiting s ≡ topOf (tableWith ie s targets)
+  unfolding topOf firstWaiting sourceOf
+  top-is = lowest-ext 63 1 _ (waiting (tableWith ie s targets)) (λ i a b. ap (λ (x : Source). x .pending && x .enable) (row-at ie s s targets i (omega arith) (omega arith)))
+
+  pub none-sent : ie ≡ false → sends (tableWith ie s targets) ≡ false
+  unfolding sends tableWith
+  none-sent e = off (ie && true) _ (ap (λ (b : Bool). b && true) e)
+    where
+      off : (a b : Bool) → a ≡ false → a && b ≡ false
+      off true b p = absurd-of p b
+        where
+          absurd-of : true ≡ false → (b : Bool) → b ≡ false
+          absurd-of p true = p
+          absurd-of p false = refl
+      off false b p = refl
+
+  module _ (n : ℕ) (hn : n ≡ firstWaiting s) where
+    first-from : 0 < n
+    unfolding firstWaiting
+    first-from = omega (arith, hn, lowest-from 63 1 (λ i. marks (s .pending) i && marks (s .enable) i))
+
+    pub none-waits : 64 ≤ n → sends (tableWith ie s targets) ≡ false
+    unfolding sends
+    none-waits l = off
+      where
+        none : (a b : Bool) → b ≡ false → a && b ≡ false
+        none true b e = e
+        none false b e = refl
+
+        off : (tableWith ie s targets .enable && forwards (tableWith ie s targets .delivery)) && ltb (topOf (tableWith ie s targets)) 64 ≡ false
+        off = none (tableWith ie s targets .enable && forwards (tableWith ie s targets .delivery)) (ltb (topOf (tableWith ie s targets)) 64) (le-ltb (topOf (tableWith ie s targets)) 64 (omega (arith, hn, top-is)))
+
+    module _ (e : ie ≡ true) (l : n < 64) where
+      sending : sends (tableWith ie s targets) ≡ true
+      unfolding sends tableWith
+      sending = both (ie && true) _ (ap (λ (b : Bool). b && true) e) (lt-ltb (topOf (tableWith ie s targets)) 64 (omega (arith, hn, top-is)))
+        where
+          both : (a b : Bool) → a ≡ true → b ≡ true → a && b ≡ true
+          both true b p q = q
+          both false b p q = p
+
+      pub forwarded-table : (mask : ℕ) (r : Sources) → ((i : ℕ) → inside i ≡ true → marks mask i ≡ only n i) → Acts (marks mask) (lowered Message) s r → tableWith ie r targets ≡ forwardTable (tableWith ie s targets)
+      unfolding forwardTable tableWith
+      forwarded-table mask r h a =
+          yes-is _ _ _ _ sending
+          (acts-table ie s r targets (only n) (lowered Message) (acts-ext (marks mask) (only n) (lowered Message) s r h a)
+          ∙ ap (λ (f : Source → Source). act (only n) f (tableWith ie s targets)) handed-is
+          ∙ ap (λ (k : ℕ). act (only k) (handed Message) (tableWith ie s targets)) (hn ∙ top-is))
+
+      pub forwarded-sent : (m : Msi) → m ≡ msiOf (targets n) → Forwarded m ≡ sentOf (tableWith ie s targets)
+      unfolding sentOf sourceOf
+      forwarded-sent m hm =
+          yes-is _ _ _ _ sending
+          (ap Forwarded (hm ∙ ap (λ (x : Source). msiOf (x .target)) (row-at ie s s targets n first-from l) ∙ ap (λ (k : ℕ). msiOf (tableWith ie s targets .row k .target)) (hn ∙ top-is)))
