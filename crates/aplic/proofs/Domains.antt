@@ -28,7 +28,7 @@ use Rattle.aplic.specs.declared.Msi.{Msi}
 use Rattle.aplic.specs.declared.Sent.the-variants.{Idle, Forwarded}
 use Rattle.aplic.specs.Calls.{wireTable, wireRefusal, concerned, change, enabledBy, writeRegister, writeTable, readRegister, readTable, domainWord, forwardTable, sends, sentOf, msiOf}
 use Rattle.aplic.specs.Domain.{tableOf, Shows}
-use Rattle.aplic.proofs.Tables.{same-table, acts-table, row-at, configured-table, aimed-table, wired-table, unwired-table, none-sent, none-waits, kept-table, kept-sent, forwarded-table, forwarded-sent}
+use Rattle.aplic.proofs.Tables.{same-table, written, told, acts-table, row-at, configured-table, aimed-table, wired-table, unwired-table, none-sent, none-waits, kept-table, kept-sent, forwarded-table, forwarded-sent}
 
 abbrev aims : List ℕ → ℕ → ℕ
 aims targets n = getD targets n 0
@@ -110,60 +110,52 @@ module _ (d : Domain) where
 
   -- ---- a write
   module _ (o v : ℕ) (g : Register) (p : g ≡ registerOf o) where
-    written : (h : Register) (t : Table) → g ≡ h → t ≡ writeRegister h v (tableOf d) → t ≡ writeTable o v (tableOf d)
-    unfolding writeTable
-    written h t q e = e ∙ ap (λ (k : Register). writeRegister k v (tableOf d)) (sym q ∙ p)
-
     pub write-nothing : g ≡ Nothing → tableOf d ≡ writeTable o v (tableOf d)
     unfolding writeRegister
-    write-nothing q = written Nothing _ q refl
+    write-nothing q = written o v g p Nothing (tableOf d) _ q refl
 
     pub write-domain : g ≡ DomainCfg → tableOf (record { enable = eqb (v / 256 % 2) 1; sources = d .sources; targets = d .targets }) ≡ writeTable o v (tableOf d)
     unfolding writeRegister enabledBy tableOf tableWith
-    write-domain q = written DomainCfg _ q refl
+    write-domain q = written o v g p DomainCfg (tableOf d) _ q refl
 
     pub write-bits : (b : BitRegister) (x : Sources) → g ≡ OfBits b → Acts (concerned b v) (change Message b) (d .sources) x → tableOf (withSources d x) ≡ writeTable o v (tableOf d)
     unfolding writeRegister tableOf tableWith
-    write-bits b x q a = written (OfBits b) _ q (acts-table (d .enable) (d .sources) x (aims (d .targets)) (concerned b v) (change Message b) a)
+    write-bits b x q a = written o v g p (OfBits b) (tableOf d) _ q (acts-table (d .enable) (d .sources) x (aims (d .targets)) (concerned b v) (change Message b) a)
 
     module _ (n : ℕ) (r : Domain) where
       pub write-source : g ≡ SourceCfg n → tableOf r ≡ act (only n) (configured Message v) (tableOf d) → tableOf r ≡ writeTable o v (tableOf d)
       unfolding writeRegister tableOf tableWith
-      write-source q e = written (SourceCfg n) _ q e
+      write-source q e = written o v g p (SourceCfg n) (tableOf d) _ q e
 
       pub write-target : g ≡ Target n → tableOf r ≡ act (only n) (aimed Message v) (tableOf d) → tableOf r ≡ writeTable o v (tableOf d)
       unfolding writeRegister tableOf tableWith
-      write-target q e = written (Target n) _ q e
+      write-target q e = written o v g p (Target n) (tableOf d) _ q e
 
   -- ---- a read
   module _ (o x : ℕ) (g : Register) (p : g ≡ registerOf o) where
-    told : (h : Register) → g ≡ h → x ≡ readRegister h (tableOf d) → x ≡ readTable o (tableOf d)
-    unfolding readTable
-    told h q e = e ∙ ap (λ (k : Register). readRegister k (tableOf d)) (sym q ∙ p)
-
     pub read-nothing : g ≡ Nothing → x ≡ 0 → x ≡ readTable o (tableOf d)
     unfolding readRegister
-    read-nothing q e = told Nothing q e
+    read-nothing q e = told o x g p Nothing (tableOf d) q e
 
     pub read-domain : g ≡ DomainCfg → x ≡ domainWord (d .enable) Message → x ≡ readTable o (tableOf d)
     unfolding readRegister tableOf tableWith
-    read-domain q e = told DomainCfg q e
+    read-domain q e = told o x g p DomainCfg (tableOf d) q e
 
     pub read-bits : (b : BitRegister) → g ≡ OfBits b → Shows b (d .sources) x → x ≡ readTable o (tableOf d)
     unfolding readRegister tableOf Shows
-    read-bits b q h = told (OfBits b) q (h (d .enable) (aims (d .targets)))
+    read-bits b q h = told o x g p (OfBits b) (tableOf d) q (h (d .enable) (aims (d .targets)))
 
     module _ (n : ℕ) where
       pub read-source : g ≡ SourceCfg n → x ≡ numberOf (sourceOf (d .sources) n 0 .mode) → x ≡ readTable o (tableOf d)
       unfolding readRegister tableOf sourceOf
       read-source q e =
-          told (SourceCfg n) q
+          told o x g p (SourceCfg n) (tableOf d) q
           (e ∙ ap (λ (y : Source). numberOf (y .mode)) (row-at (d .enable) (d .sources) (d .sources) (aims (d .targets)) n (source-above o n g p q) (source-below o n g p q)))
 
       pub read-target : g ≡ Target n → x ≡ getD (d .targets) n 0 → x ≡ readTable o (tableOf d)
       unfolding readRegister tableOf sourceOf
       read-target q e =
-          told (Target n) q
+          told o x g p (Target n) (tableOf d) q
           (e ∙ ap (λ (y : Source). y .target) (row-at (d .enable) (d .sources) (d .sources) (aims (d .targets)) n (target-above o n g p q) (target-below o n g p q)))
 
   -- ---- a forward

@@ -25,7 +25,7 @@ use Rattle.sources.specs.declared.Sources.{Sources}
 use Rattle.sources.specs.Sources.{sourceOf, tableWith, Acts, Inputs, lined, firstWaiting}
 use Rattle.aplic.specs.declared.Msi.{Msi}
 use Rattle.aplic.specs.declared.Sent.the-variants.{Idle, Forwarded}
-use Rattle.aplic.specs.Calls.{concerned, change, readBits, waiting, topOf, forwards, sends, forwardTable, sentOf, msiOf, wireTable, wireRefusal}
+use Rattle.aplic.specs.Calls.{concerned, change, writeRegister, writeTable, readBits, readRegister, readTable, waiting, topOf, forwards, sends, forwardTable, sentOf, msiOf, wireTable, wireRefusal}
 use Rattle.aplic.specs.Domain.{Shows}
 
 pub same-table : (d e : Delivery) (x y : Bool) (f g : ℕ → Source) → d ≡ e → x ≡ y → ((i : ℕ) → f i ≡ g i)
@@ -181,6 +181,16 @@ aimed-table ie s targets targets′ n v x hx ht = one-table ie s s targets targe
     go : (i : ℕ) (c : Bool) → eqb i n ≡ c → sourceOf s i (pick c (x .target) (targets i)) ≡ pick c x (sourceOf s i (targets i))
     go i true e = rw (eqb-true i n e, hx)
     go i false e = refl
+
+-- ---- by the register that an offset names
+module _ (o v : ℕ) (g : Register) (p : g ≡ registerOf o) where
+  pub written : (h : Register) (t x : Table) → g ≡ h → x ≡ writeRegister h v t → x ≡ writeTable o v t
+  unfolding writeTable
+  written h t x q e = e ∙ ap (λ (k : Register). writeRegister k v t) (sym q ∙ p)
+
+  pub told : (h : Register) (t : Table) → g ≡ h → v ≡ readRegister h t → v ≡ readTable o t
+  unfolding readTable
+  told h t q e = e ∙ ap (λ (k : Register). readRegister k t) (sym q ∙ p)
 
 -- what is no source's is left alone
 pub outside : (n : ℕ) (f : Source → Source) (t : Table) → inside n ≡ false → t ≡ act (only n) f t
