@@ -1,2 +1,4 @@
 pub mod Tables
 pub mod Domains
+pub mod Runs
+pub mod Sound

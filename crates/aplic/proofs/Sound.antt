@@ -1,0 +1,175 @@
+-- What document 002 says of every source holds after every run, in both delivery modes. Assumes nothing.
+use mathlib.Core.Path.{_≡_, refl, sym, subst}
+use mathlib.Core.Bool.{Bool, true, false, not, _&&_, _||_}
+use mathlib.Core.List.{List, [], _∷_}
+use Prim.Native.Nat.{ℕ}
+use Rattle.memory.specs.Choice.{pick}
+use Rattle.word.specs.Word.{inside, only}
+use Rattle.register.specs.declared.BitRegister.{BitRegister}
+use Rattle.register.specs.declared.BitRegister.the-variants.{SetIp, SetIpNum, InClrIp, ClrIpNum, SetIe, SetIeNum, ClrIe, ClrIeNum}
+use Rattle.register.specs.declared.Register.{Register}
+use Rattle.register.specs.declared.Register.the-variants.{DomainCfg, SourceCfg, OfBits, Target, Nothing}
+use Rattle.register.specs.Register.{registerOf}
+use Rattle.source.specs.declared.Delivery.{Delivery}
+use Rattle.source.specs.declared.Delivery.the-variants.{Direct, Message}
+use Rattle.source.specs.declared.Mode.{Mode}
+use Rattle.source.specs.declared.Mode.the-variants.{Inactive, Detached, Edge1, Edge0, Level1, Level0}
+use Rattle.source.specs.declared.Source.{Source}
+use Rattle.source.specs.Source.{modeOf, activeOf, rectified, Event, input, setip, clrip, delivered, pendingAfter, rises, befalls, sensed, raised, lowered, handed, allowed, configured, configuredPending, configuredTarget, aimed}
+use Rattle.source.specs.Table.{Table, startOf, act}
+use Rattle.aplic.specs.Calls.{wireTable, concerned, change, enabledBy, writeRegister, writeTable, forwardTable, sends, topOf}
+use Rattle.aplic.specs.Run.{Call, wire, write, read, forward, after, afterAll}
+use Rattle.aplic.specs.Sound.{LevelSound, SoundAs, Sound}
+
+abbrev Fine : Delivery → Source → Type 0
+Fine d s = SoundAs d (s .mode) s
+
+abbrev mk : Mode → Bool → Bool → Bool → ℕ → Source
+mk m w p e t = record { mode = m; wire = w; pending = p; enable = e; target = t }
+
+last : (b : Bool) → b && false ≡ false
+last true = refl
+last false = refl
+
+-- ---- a level-sensitive source, by the values of its input
+level-sensed : (d : Delivery) (was now p : Bool) → LevelSound d now (pendingAfter d Level1 (input was now) p)
+level-sensed Direct was true p = refl
+level-sensed Direct was false p = refl
+level-sensed Message was true p = last (rises was true || p)
+level-sensed Message was false p = refl
+
+level-raised : (d : Delivery) (i p : Bool) → LevelSound d i p → LevelSound d i (pendingAfter d Level1 (setip i) p)
+level-raised Direct i p h = h
+level-raised Message true p h = refl
+level-raised Message false p h = h
+
+level-lowered : (d : Delivery) (i p : Bool) → LevelSound d i p → LevelSound d i (pendingAfter d Level1 clrip p)
+level-lowered Direct i p h = h
+level-lowered Message i p h = refl
+
+level-handed : (d : Delivery) (i p : Bool) → LevelSound d i p → LevelSound d i (pendingAfter d Level1 delivered p)
+level-handed Direct i p h = h
+level-handed Message i p h = refl
+
+level-set : (d : Delivery) (i : Bool) → LevelSound d i i
+level-set Direct i = refl
+level-set Message true = refl
+level-set Message false = refl
+
+-- ---- each change keeps a source sound
+module _ (d : Delivery) where
+  sensed-at : (now : Bool) (m : Mode) (w p e : Bool) (t : ℕ) → Fine d (mk m w p e t) → Fine d (sensed d now (mk m w p e t))
+  unfolding sensed
+  sensed-at now Inactive w p e t h = h
+  sensed-at now Detached w p e t h = tt
+  sensed-at now Edge1 w p e t h = tt
+  sensed-at now Edge0 w p e t h = tt
+  sensed-at now Level1 w p e t h = level-sensed d w now p
+  sensed-at now Level0 w p e t h = level-sensed d (not w) (not now) p
+
+  raised-at : (m : Mode) (w p e : Bool) (t : ℕ) → Fine d (mk m w p e t) → Fine d (raised d (mk m w p e t))
+  unfolding raised
+  raised-at Inactive w p e t h = h
+  raised-at Detached w p e t h = tt
+  raised-at Edge1 w p e t h = tt
+  raised-at Edge0 w p e t h = tt
+  raised-at Level1 w p e t h = level-raised d w p h
+  raised-at Level0 w p e t h = level-raised d (not w) p h
+
+  lowered-at : (m : Mode) (w p e : Bool) (t : ℕ) → Fine d (mk m w p e t) → Fine d (lowered d (mk m w p e t))
+  unfolding lowered
+  lowered-at Inactive w p e t h = h
+  lowered-at Detached w p e t h = tt
+  lowered-at Edge1 w p e t h = tt
+  lowered-at Edge0 w p e t h = tt
+  lowered-at Level1 w p e t h = level-lowered d w p h
+  lowered-at Level0 w p e t h = level-lowered d (not w) p h
+
+  handed-at : (m : Mode) (w p e : Bool) (t : ℕ) → Fine d (mk m w p e t) → Fine d (handed d (mk m w p e t))
+  unfolding handed
+  handed-at Inactive w p e t h = h
+  handed-at Detached w p e t h = tt
+  handed-at Edge1 w p e t h = tt
+  handed-at Edge0 w p e t h = tt
+  handed-at Level1 w p e t h = level-handed d w p h
+  handed-at Level0 w p e t h = level-handed d (not w) p h
+
+  allowed-at : (on : Bool) (m : Mode) (w p e : Bool) (t : ℕ) → Fine d (mk m w p e t) → Fine d (allowed on (mk m w p e t))
+  unfolding allowed
+  allowed-at true Inactive w p e t h = h
+  allowed-at false Inactive w p e t h = (h .0, refl, h .2)
+  allowed-at on Detached w p e t h = tt
+  allowed-at on Edge1 w p e t h = tt
+  allowed-at on Edge0 w p e t h = tt
+  allowed-at on Level1 w p e t h = h
+  allowed-at on Level0 w p e t h = h
+
+  aimed-at : (v : ℕ) (m : Mode) (w p e : Bool) (t : ℕ) → Fine d (mk m w p e t) → Fine d (aimed d v (mk m w p e t))
+  unfolding aimed
+  aimed-at v Inactive w p e t h = h
+  aimed-at v Detached w p e t h = tt
+  aimed-at v Edge1 w p e t h = tt
+  aimed-at v Edge0 w p e t h = tt
+  aimed-at v Level1 w p e t h = h
+  aimed-at v Level0 w p e t h = h
+
+  configured-at : (v : ℕ) (s : Source) → Fine d (configured d v s)
+  unfolding configured
+  configured-at v s = go (modeOf v)
+    where
+      go : (m : Mode) → Fine d (mk m (s .wire) (configuredPending m (rectified m (s .wire)) (s .pending)) (activeOf m && s .enable) (configuredTarget d (s .mode) m (s .target)))
+      go Inactive = (refl, refl, refl)
+      go Detached = tt
+      go Edge1 = tt
+      go Edge0 = tt
+      go Level1 = level-set d (s .wire)
+      go Level0 = level-set d (not (s .wire))
+
+-- a change that keeps every source sound
+abbrev Keeps : Delivery → (Source → Source) → Type 0
+Keeps d f = (s : Source) → Fine d s → Fine d (f s)
+
+keeps-change : (d : Delivery) (b : BitRegister) → Keeps d (change d b)
+unfolding change
+keeps-change d (SetIp high) s h = raised-at d (s .mode) (s .wire) (s .pending) (s .enable) (s .target) h
+keeps-change d SetIpNum s h = raised-at d (s .mode) (s .wire) (s .pending) (s .enable) (s .target) h
+keeps-change d (InClrIp high) s h = lowered-at d (s .mode) (s .wire) (s .pending) (s .enable) (s .target) h
+keeps-change d ClrIpNum s h = lowered-at d (s .mode) (s .wire) (s .pending) (s .enable) (s .target) h
+keeps-change d (SetIe high) s h = allowed-at d true (s .mode) (s .wire) (s .pending) (s .enable) (s .target) h
+keeps-change d SetIeNum s h = allowed-at d true (s .mode) (s .wire) (s .pending) (s .enable) (s .target) h
+keeps-change d (ClrIe high) s h = allowed-at d false (s .mode) (s .wire) (s .pending) (s .enable) (s .target) h
+keeps-change d ClrIeNum s h = allowed-at d false (s .mode) (s .wire) (s .pending) (s .enable) (s .target) h
+
+acts : (sel : ℕ → Bool) (f : Source → Source) (t : Table) → Keeps (t .delivery) f → Sound t → Sound (act sel f t)
+acts sel f t keep h i = go (inside i && sel i)
+  where
+    go : (b : Bool) → Fine (t .delivery) (pick b (f (t .row i)) (t .row i))
+    go true = keep (t .row i) (h i)
+    go false = h i
+
+written : (g : Register) (v : ℕ) (t : Table) → Sound t → Sound (writeRegister g v t)
+unfolding writeRegister enabledBy
+written DomainCfg v t h = h
+written (SourceCfg n) v t h = acts (only n) (configured (t .delivery) v) t (λ s k. configured-at (t .delivery) v s) h
+written (OfBits b) v t h = acts (concerned b v) (change (t .delivery) b) t (keeps-change (t .delivery) b) h
+written (Target n) v t h = acts (only n) (aimed (t .delivery) v) t (λ s k. aimed-at (t .delivery) v (s .mode) (s .wire) (s .pending) (s .enable) (s .target) k) h
+written Nothing v t h = h
+
+kept : (t : Table) (c : Call) → Sound t → Sound (after t c)
+unfolding wireTable writeTable forwardTable
+kept t (wire n level) h = acts (only n) (sensed (t .delivery) level) t (λ s k. sensed-at (t .delivery) level (s .mode) (s .wire) (s .pending) (s .enable) (s .target) k) h
+kept t (write o v) h = written (registerOf o) v t h
+kept t (read o) h = h
+kept t forward h = go (sends t)
+  where
+    go : (b : Bool) → Sound (pick b (act (only (topOf t)) (handed (t .delivery)) t) t)
+    go true = acts (only (topOf t)) (handed (t .delivery)) t (λ s k. handed-at (t .delivery) (s .mode) (s .wire) (s .pending) (s .enable) (s .target) k) h
+    go false = h
+
+pub sound-kept : (t : Table) (cs : List Call) → Sound t → Sound (afterAll t cs)
+sound-kept t [] h = h
+sound-kept t (c ∷ cs) h = sound-kept (after t c) cs (kept t c h)
+
+-- after every run from the start, in both delivery modes
+pub always-sound : (d : Delivery) (cs : List Call) → Sound (afterAll (startOf d) cs)
+always-sound d cs = sound-kept (startOf d) cs (λ i. (refl, refl, refl))
