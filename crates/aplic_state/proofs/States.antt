@@ -7,11 +7,12 @@ use native.Mathlib.Nat.{mod-eq-of-lt, le-of-suc-le-suc}
 use native.Mathlib.Omega.{arith}
 use borrow.Author.Tests.{eqb-true, eqb-false}
 use lib.Dec.{eqb}
-use lib.ListN.{getD, set, length, drop, length-set}
+use lib.ListN.{getD, set, length, drop, replicate, length-set}
 use lib.Seq.{getD-set-same, getD-set-other}
 use Rattle.memory.specs.Bits.{bits, bit}
 use Rattle.memory.specs.Choice.{pick}
 use Rattle.word.specs.Word.{marks, inside, only}
+use Rattle.word.proofs.Bits.{zero-digit}
 use Rattle.register.specs.declared.BitRegister.{BitRegister}
 use Rattle.register.specs.declared.Register.{Register}
 use Rattle.register.specs.declared.Register.the-variants.{DomainCfg, SourceCfg, OfBits, Target, Nothing}
@@ -290,3 +291,20 @@ pub ruleset writes = (write-nothing, write-domain, write-bits, write-source, wri
 pub ruleset reads = (read-nothing, read-domain, read-bits, read-source, read-target)
 
 pub ruleset forwards = (kept-table, kept-sent, forward-off, forward-none, forward-goes, forward-sends, forward-changes)
+
+-- ---- words that are all zero are the start
+abbrev zeros : ℕ → List ℕ
+zeros n = replicate n 0
+
+zero-word : (n i : ℕ) → _≡_ {A = ℕ} (getD (zeros n) i 0) 0
+zero-word zero i = refl
+zero-word (suc n) zero = refl
+zero-word (suc n) (suc i) = zero-word n i
+
+pub zeros-start : (n : ℕ) → tableIn (zeros n) ≡ startOf Message
+unfolding tableIn tableWith sourceOf enableIn sourcesIn targetIn
+zeros-start n = same-table _ _ _ _ _ _ refl (rw (zero-word n 0)) (λ i. go i (inside i))
+  where
+    go : (i : ℕ) (b : Bool) → pick b (sourceOf (sourcesIn (zeros n)) i (targetIn (zeros n) i)) quiet ≡ quiet
+    go i true = rw (zero-word n 1, zero-word n 2, zero-word n 3, zero-word n 4, zero-word n 5, zero-word n 6, zero-word n (7 + i), zero-digit i)
+    go i false = refl

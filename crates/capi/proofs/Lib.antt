@@ -1,3 +1,4 @@
 pub mod Faces
 pub mod Spans
 pub mod Wired
+pub mod Runs

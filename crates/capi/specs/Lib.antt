@@ -1,3 +1,4 @@
 pub mod Face
 pub mod Words
 pub mod Wired
+pub mod Runs

@@ -1,0 +1,78 @@
+-- THE RUN CLAIM of the C functions: on words that began as zeros they answer as the table of separate sources does. Assumes nothing.
+use Prim.Native.Nat.{ℕ, zero, suc, _<_, _≤_}
+use mathlib.Core.Bool.{Bool, not}
+use mathlib.Core.List.{List, [], _∷_}
+use mathlib.Core.Path.{_≡_, refl, sym, ap, _∙_}
+use native.Mathlib.Omega.{arith}
+use borrow.Author.Tests.{le-ltb}
+use lib.Dec.{eqb}
+use lib.ListN.{getD, length, replicate, set}
+use Rattle.memory.specs.Choice.{pick}
+use Rattle.word.specs.Word.{inside}
+use Rattle.source.specs.declared.Delivery.the-variants.{Message}
+use Rattle.source.specs.Table.{Table, startOf}
+use Rattle.aplic.specs.declared.Sent.{Sent}
+use Rattle.aplic.specs.declared.Sent.the-variants.{Idle, Forwarded}
+use Rattle.aplic.specs.Calls.{wireTable, wireRefusal}
+use Rattle.aplic.specs.Run.{Call, Answer, refusal, value, sent, answer, after, answers, afterAll, Ran, end, next}
+use Rattle.aplic.proofs.Tables.{unwired-table}
+use Rattle.aplic.proofs.Runs.{run-claim}
+use Rattle.aplic_state.specs.State.{tableIn}
+use Rattle.aplic_state.proofs.States.{zeros-start}
+use Rattle.capi.specs.Face.{status}
+use Rattle.capi.specs.Wired.{domainStatus, underStatus, withSent}
+use Rattle.capi.specs.Runs.{sentIn, Called, yasmurekh-aplic-wire, yasmurekh-aplic-write, yasmurekh-aplic-read, yasmurekh-aplic-forward, Calls}
+use Rattle.capi.specs.Runs as R
+
+-- a state that is long enough has the status that the call tells
+told-itself : (state : List ℕ) (t : ℕ) → 71 ≤ length state → domainStatus state t ≡ t
+unfolding domainStatus
+told-itself state t h = simp (le-ltb (length state) 71 h)
+
+has-room : (n : ℕ) (out : List ℕ) → n ≤ length out → status n out ≡ 0
+unfolding status
+has-room n out h = simp (le-ltb (length out) n h)
+
+done-under : {A : Type 0} (r : ℕ) (x y : A) → r ≡ 0 → underStatus r x y ≡ y
+unfolding underStatus
+done-under r x y e = ap (λ (k : ℕ). underStatus k x y) e
+
+-- a refused wire does to the table what a wire that is none does
+wired-under : (t : Table) (n r : ℕ) (level : Bool) → r ≡ wireRefusal n → underStatus r t (wireTable n level t) ≡ wireTable n level t
+unfolding underStatus
+wired-under t n zero level e = refl
+wired-under t n (suc r) level e = unwired-table t n (suc r) level e (λ k. omega (arith, k))
+
+set-there : (out : List ℕ) (v : ℕ) → 1 ≤ length out → getD (set out 0 v) 0 0 ≡ v
+set-there [] v h = absurd (omega arith)
+set-there (x ∷ out) v h = refl
+
+-- four words say what was put into them
+sent-there : (out : List ℕ) (s : Sent) → 4 ≤ length out → sentIn (withSent out s) ≡ s
+unfolding withSent
+sent-there [] s h = absurd (omega arith)
+sent-there (a ∷ []) s h = absurd (omega arith)
+sent-there (a ∷ b ∷ []) s h = absurd (omega arith)
+sent-there (a ∷ b ∷ c ∷ []) s h = absurd (omega arith)
+sent-there (a ∷ b ∷ c ∷ d ∷ out) Idle h = refl
+sent-there (a ∷ b ∷ c ∷ d ∷ out) (Forwarded m) h = refl
+
+one : {state left : List ℕ} {c : Call} {a : Answer} → 71 ≤ length state → Called state c a left → (a ≡ answer (tableIn state) c) × (tableIn left ≡ after (tableIn state) c)
+one {state} l (yasmurekh-aplic-wire source level r left told table) =
+    let e : r ≡ wireRefusal source = told ∙ told-itself state (wireRefusal source) l in
+    (ap refusal e, table ∙ wired-under (tableIn state) source r (not (eqb level 0)) e)
+one {state} l (yasmurekh-aplic-write offset v r left told table) = (refl, table ∙ done-under r _ _ (told ∙ told-itself state 0 l))
+one {state} l (yasmurekh-aplic-read offset r out told left room e words same) =
+    let z : r ≡ 0 = e ∙ told-itself state (status 1 out) l ∙ has-room 1 out room in
+    (ap (λ (k : List ℕ). value (getD k 0 0)) (words ∙ done-under r _ _ z) ∙ ap value (set-there out _ room), ap tableIn same)
+one {state} l (yasmurekh-aplic-forward r out told left room e words table) =
+    let z : r ≡ 0 = e ∙ told-itself state (status 4 out) l ∙ has-room 4 out room in
+    (ap (λ (k : List ℕ). sent (sentIn k)) (words ∙ done-under r _ _ z) ∙ ap sent (sent-there out _ room), table ∙ done-under r _ _ z)
+
+ran : {state z : List ℕ} {cs : List Call} {xs : List Answer} → Calls state cs xs z → Ran tableIn state cs xs z
+ran R.end = end
+ran (R.next l c r) = let p = one l c in next (p .0) (p .1) (ran r)
+
+-- any number of zero words, any calls
+pub lent-run : (n : ℕ) {z : List ℕ} {cs : List Call} {xs : List Answer} → Calls (replicate n 0) cs xs z → (xs ≡ answers (startOf Message) cs) × (tableIn z ≡ afterAll (startOf Message) cs)
+lent-run n r = run-claim Message (zeros-start n) (ran r)
