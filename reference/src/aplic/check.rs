@@ -467,6 +467,36 @@ fn wires(checks: &mut Checks) {
     }
 }
 
+/// Places that are no register of the domain.
+const UNDEFINED: [(&str, &[u64]); 9] = [
+    ("genmsi", &[0x3000]),
+    ("setipnum_be", &[0x2004]),
+    (
+        "the address registers of machine level",
+        &[0x1BC0, 0x1BC4, 0x1BC8, 0x1BCC],
+    ),
+    ("sourcecfg[64], sourcecfg[1023]", &[0x100, 0xFFC]),
+    ("target[64], target[1023]", &[0x3100, 0x3FFC]),
+    (
+        "mask registers 2 and 31",
+        &[0x1C08, 0x1C7C, 0x1D08, 0x1D7C, 0x1E08, 0x1F7C],
+    ),
+    (
+        "gaps",
+        &[
+            0x1000, 0x1BBC, 0x1C80, 0x1CD8, 0x1CE0, 0x1FE0, 0x2008, 0x2FFC,
+        ],
+    ),
+    (
+        "misaligned",
+        &[1, 2, 3, 5, 0x102, 0x1C01, 0x1CDD, 0x2002, 0x3005, 0x3007],
+    ),
+    (
+        "structures of harts, and beyond",
+        &[0x4000, 0x4004, 0x4008, 0x4018, 0x401C, 0x1_0004],
+    ),
+];
+
 /// 002, 4.1.5; 02, Req 07: "Undefined offsets, genmsi and setipnum_be read zero and ignore writes".
 fn undefined(checks: &mut Checks) {
     let mut domain = Domain::new();
@@ -476,35 +506,7 @@ fn undefined(checks: &mut Checks) {
         domain.write(SETIPNUM, source as u32);
     }
     let before = domain.clone();
-    let places: [(&str, &[u64]); 9] = [
-        ("genmsi", &[0x3000]),
-        ("setipnum_be", &[0x2004]),
-        (
-            "the address registers of machine level",
-            &[0x1BC0, 0x1BC4, 0x1BC8, 0x1BCC],
-        ),
-        ("sourcecfg[64], sourcecfg[1023]", &[0x100, 0xFFC]),
-        ("target[64], target[1023]", &[0x3100, 0x3FFC]),
-        (
-            "mask registers 2 and 31",
-            &[0x1C08, 0x1C7C, 0x1D08, 0x1D7C, 0x1E08, 0x1F7C],
-        ),
-        (
-            "gaps",
-            &[
-                0x1000, 0x1BBC, 0x1C80, 0x1CD8, 0x1CE0, 0x1FE0, 0x2008, 0x2FFC,
-            ],
-        ),
-        (
-            "misaligned",
-            &[1, 2, 3, 5, 0x102, 0x1C01, 0x1CDD, 0x2002, 0x3005, 0x3007],
-        ),
-        (
-            "structures of harts, and beyond",
-            &[0x4000, 0x4004, 0x4008, 0x4018, 0x401C, 0x1_0004],
-        ),
-    ];
-    for (name, offsets) in places {
+    for (name, offsets) in UNDEFINED {
         let holds = offsets.iter().all(|offset| {
             // The same place in other regions of 4 GiB, and the last one of all.
             [*offset, *offset | 1 << 40 | 4, u64::MAX - 3]
