@@ -60,7 +60,7 @@ impl Domain {
         self.sources.get(place)
     }
 
-    fn source_mut(&mut self, number: u64) -> Option<&mut Source> {
+    pub fn source_mut(&mut self, number: u64) -> Option<&mut Source> {
         let place = usize::try_from(number.checked_sub(1)?).ok()?;
         self.sources.get_mut(place)
     }

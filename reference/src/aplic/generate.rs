@@ -213,10 +213,11 @@ impl Maker {
         if self.random.chance(50) {
             return Call::Read { offset };
         }
-        // A value that would do something if the place were a register.
-        let value = match self.random.below(3) {
+        // A value that would do something if the place were a register, of either byte order.
+        let value = match self.random.below(4) {
             0 => self.source() as u32,
-            1 => u32::MAX,
+            1 => (self.source() as u32).swap_bytes(),
+            2 => u32::MAX,
             _ => self.random.number() as u32,
         };
         Call::Write { offset, value }
