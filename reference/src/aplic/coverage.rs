@@ -164,11 +164,11 @@ mod tests {
 
     #[test]
     fn every_mark_is_met() {
-        let coverage = Coverage::run(11, 300_000);
+        let coverage = Coverage::run(11, 1_000_000);
         assert!(coverage.failures.is_empty(), "{:?}", coverage.failures);
         assert_eq!(coverage.unexpected(), []);
         assert_eq!(coverage.at_zero(), []);
-        assert_eq!(coverage.calls, 300_000);
+        assert_eq!(coverage.calls, 1_000_000);
     }
 
     /// A mark with the outcome that it must not have.

@@ -130,11 +130,14 @@ impl Maker {
         Call::Wire { source, high }
     }
 
-    /// Any SM; at times with bit 10, at times with reserved bits.
+    /// Any SM, more often one that leaves the source active; at times with bit 10, at times with
+    /// reserved bits.
     fn sourcecfg_value(&mut self) -> u32 {
         let random = &mut self.random;
         let mut value = random.below(8) as u32;
-        if random.chance(10) {
+        if random.chance(30) {
+            value = random.pick(&[1, 4, 5, 6, 7]);
+        } else if random.chance(25) {
             value |= 1 << 10;
         }
         if random.chance(15) {
