@@ -1,22 +1,24 @@
 /*
- * Yasmurekh: a RISC-V IOMMU in software, with memory-resident interrupt files.
+ * Yasmurekh: a RISC-V IOMMU in software, with memory-resident interrupt files,
+ * and a domain of an interrupt controller (APLIC) for devices that signal by wire.
  *
  * All tables and interrupt files lie in one window of memory that the caller
- * lends. No routine keeps state, allocates or blocks; calls on different windows
- * may run at the same time. Nothing outside the archive is called, no C library
- * either.
+ * lends; a wired domain is a state of 71 words that the caller lends. No routine
+ * keeps state, allocates or blocks; calls on different windows or states may run
+ * at the same time. Nothing outside the archive is called, no C library either.
  *
- * Every routine is total: it answers any numbers and any bytes in the window,
- * and reads and writes nothing but the buffers that it is lent. What the caller
- * owes is what C cannot check:
- *   - `window` points to `window_len` bytes and `out` to `out_len` words that
- *     may be read and written (a report only reads the window);
- *   - `out` is aligned for uint64_t; the window needs no alignment;
- *   - the two buffers do not overlap;
+ * Every routine is total: it answers any numbers, any bytes in the window and any
+ * words in the state, and reads and writes nothing but the buffers that it is
+ * lent. What the caller owes is what C cannot check:
+ *   - `window` points to `window_len` bytes, `state` to `state_len` words and
+ *     `out` to `out_len` words that may be read and written (a report only reads
+ *     the window);
+ *   - `state` and `out` are aligned for uint64_t; the window needs no alignment;
+ *   - the two buffers of a call do not overlap;
  *   - nothing else changes them during the call.
- * A pointer is never looked at where its length is 0 (and `out` never where its
- * length is too small), so NULL is fine there and nowhere else. An empty window
- * is legal: every table load then faults.
+ * A pointer is never looked at where its length is 0 (and `state` and `out` never
+ * where their own is too small), so NULL is fine there and nowhere else. An empty
+ * window is legal: every table load then faults.
  *
  * Page tables: Sv39, Sv48 and Sv57 for the first stage, modes 8, 9 and 10 of fsc;
  * Sv39x4, Sv48x4 and Sv57x4 for the second, the same modes of iohgatp, its root
@@ -33,9 +35,9 @@
 extern "C" {
 #endif
 
-/* Status of a call: 0 where `out` holds an answer. */
+/* Status of a call: 0 where it was made and `out` holds its answer. */
 #define YASMUREKH_OK 0u
-#define YASMUREKH_SHORT_BUFFER 1u /* `out` is too short; nothing changed */
+#define YASMUREKH_SHORT_BUFFER 1u /* `out` or `state` is too short; nothing changed */
 
 /* Words of `out`. */
 #define YASMUREKH_ANSWER_WORDS 5u  /* request, take: kind, three values, stage */
@@ -74,6 +76,7 @@ extern "C" {
 #define YASMUREKH_REFUSAL_FILE 2008u         /* take, report: no file of the window */
 #define YASMUREKH_REFUSAL_IDENTITY 2009u     /* take: identity above 2047 */
 #define YASMUREKH_REFUSAL_NUMBER 2010u       /* request: unknown access or flag */
+#define YASMUREKH_REFUSAL_SOURCE 2014u       /* wire: source outside 1 to 63; the status of the call */
 
 /* Fault causes, as the IOMMU specification numbers them. */
 #define YASMUREKH_CAUSE_INSTRUCTION_ACCESS 1u
@@ -185,6 +188,113 @@ uint64_t yasmurekh_take(uint64_t start, uint8_t *window, size_t window_len,
 uint64_t yasmurekh_report(uint64_t start, const uint8_t *window,
                           size_t window_len, uint64_t file, uint64_t *out,
                           size_t out_len);
+
+/*
+ * The wired domain: one supervisor leaf domain of an APLIC with message delivery,
+ * little-endian, sources 1 to 63, as the Advanced Interrupt Architecture has it.
+ *
+ * Its state is YASMUREKH_APLIC_WORDS words that the caller lends to each call.
+ * That many zero words are a domain at reset; which word holds what is the
+ * library's own. Any words are answered, but only words that began at zero and
+ * went through these calls stand for a domain that the architecture describes.
+ * Words of `state` after those are never looked at.
+ */
+#define YASMUREKH_APLIC_WORDS 71u        /* words of a domain's state */
+#define YASMUREKH_APLIC_SOURCES 63u      /* sources 1 to 63 */
+#define YASMUREKH_APLIC_READ_WORDS 1u    /* `out` of a read: the value */
+#define YASMUREKH_APLIC_FORWARD_WORDS 4u /* `out` of a forward: 1 or 0, hart index, guest index, identity */
+
+/* Places in the `out` of a forward. */
+#define YASMUREKH_APLIC_FORWARD_MADE 0u /* 1; or 0 where nothing is forwarded, and the other words too */
+#define YASMUREKH_APLIC_FORWARD_HART 1u
+#define YASMUREKH_APLIC_FORWARD_GUEST 2u
+#define YASMUREKH_APLIC_FORWARD_IDENTITY 3u
+
+/* Offsets of registers; n is a source, 1 to 63; k is 0 for sources 0 to 31, 1 for sources 32 to 63. */
+#define YASMUREKH_APLIC_DOMAINCFG UINT64_C(0x0000)
+#define YASMUREKH_APLIC_SOURCECFG(n) (UINT64_C(4) * (n))                   /* source mode */
+#define YASMUREKH_APLIC_SETIP(k) (UINT64_C(0x1C00) + UINT64_C(4) * (k))    /* pending bits; ones set */
+#define YASMUREKH_APLIC_SETIPNUM UINT64_C(0x1CDC)                          /* sets a pending bit by number */
+#define YASMUREKH_APLIC_IN_CLRIP(k) (UINT64_C(0x1D00) + UINT64_C(4) * (k)) /* rectified inputs; ones clear pending */
+#define YASMUREKH_APLIC_CLRIPNUM UINT64_C(0x1DDC)                          /* clears a pending bit by number */
+#define YASMUREKH_APLIC_SETIE(k) (UINT64_C(0x1E00) + UINT64_C(4) * (k))    /* enable bits; ones set */
+#define YASMUREKH_APLIC_SETIENUM UINT64_C(0x1EDC)                          /* sets an enable bit by number */
+#define YASMUREKH_APLIC_CLRIE(k) (UINT64_C(0x1F00) + UINT64_C(4) * (k))    /* reads zero; ones clear enable bits */
+#define YASMUREKH_APLIC_CLRIENUM UINT64_C(0x1FDC)                          /* clears an enable bit by number */
+#define YASMUREKH_APLIC_SETIPNUM_LE UINT64_C(0x2000)                       /* as setipnum */
+#define YASMUREKH_APLIC_TARGET(n) (UINT64_C(0x3000) + UINT64_C(4) * (n))   /* where its messages go */
+
+/* domaincfg: the domain's enable bit, the one that can be written; reads 0x80000004 beside it. */
+#define YASMUREKH_APLIC_DOMAINCFG_IE 0x100u
+
+/* Source modes; 2 and 3 are kept as 0, and so is a value with bit 10. */
+#define YASMUREKH_APLIC_INACTIVE 0u
+#define YASMUREKH_APLIC_DETACHED 1u /* the wire is ignored */
+#define YASMUREKH_APLIC_EDGE1 4u    /* rising edge */
+#define YASMUREKH_APLIC_EDGE0 5u    /* falling edge */
+#define YASMUREKH_APLIC_LEVEL1 6u   /* high level */
+#define YASMUREKH_APLIC_LEVEL0 7u   /* low level */
+
+/* Fields of a target: hart index in bits 31:18, guest index in 17:12, identity in 10:0. */
+#define YASMUREKH_APLIC_TARGET_HART_SHIFT 18u
+#define YASMUREKH_APLIC_TARGET_GUEST_SHIFT 12u
+#define YASMUREKH_APLIC_TARGET_IDENTITY_SHIFT 0u
+
+/*
+ * Gives the wire of a source a level: 0 is low, any other number high.
+ *
+ * Lent: `state`. Changed: what it keeps of that source. Never changed: the other
+ * sources, and all of it where the call is refused.
+ *
+ * Returns YASMUREKH_OK; YASMUREKH_SHORT_BUFFER, with nothing changed, where
+ * `state_len` is below YASMUREKH_APLIC_WORDS; or else YASMUREKH_REFUSAL_SOURCE,
+ * with nothing changed, where `source` isn't from 1 to 63.
+ */
+uint64_t yasmurekh_aplic_wire(uint64_t *state, size_t state_len,
+                              uint64_t source, uint64_t level);
+
+/*
+ * Writes 32 bits to the register at `offset`. An offset that is no register of
+ * the domain (misaligned, undefined, genmsi, setipnum_be, of sources above 63,
+ * beyond the region) is ignored.
+ *
+ * Lent: `state`. Changed: what the register stands for. Never changed: anything
+ * else of it, and all of it where no register is.
+ *
+ * Returns YASMUREKH_OK; or YASMUREKH_SHORT_BUFFER as yasmurekh_aplic_wire does.
+ */
+uint64_t yasmurekh_aplic_write(uint64_t *state, size_t state_len,
+                               uint64_t offset, uint32_t value);
+
+/*
+ * Reads the 32 bits of the register at `offset`; 0 where no register is.
+ *
+ * Lent: `state` and `out`. Changed: the first word of `out`. Never changed: the
+ * words of `out` after it, and, in message delivery, `state`.
+ *
+ * Returns YASMUREKH_OK; or YASMUREKH_SHORT_BUFFER, with nothing changed, where
+ * `state_len` is below YASMUREKH_APLIC_WORDS or `out_len` below
+ * YASMUREKH_APLIC_READ_WORDS.
+ */
+uint64_t yasmurekh_aplic_read(uint64_t *state, size_t state_len,
+                              uint64_t offset, uint64_t *out, size_t out_len);
+
+/*
+ * Forwards one interrupt: takes the lowest-numbered source that is pending and
+ * enabled while IE of domaincfg is set, clears its pending bit, and hands out its
+ * target. The message is not sent: the caller writes the identity, as 32 bits, to
+ * the interrupt file that hart index and guest index name.
+ *
+ * Lent: `state` and `out`. Changed: the first four words of `out`, and that one
+ * pending bit. Never changed: the words of `out` after the fourth, anything else
+ * of `state`, and all of it where nothing is forwarded.
+ *
+ * Returns YASMUREKH_OK; or YASMUREKH_SHORT_BUFFER, with nothing changed, where
+ * `state_len` is below YASMUREKH_APLIC_WORDS or `out_len` below
+ * YASMUREKH_APLIC_FORWARD_WORDS.
+ */
+uint64_t yasmurekh_aplic_forward(uint64_t *state, size_t state_len,
+                                 uint64_t *out, size_t out_len);
 
 #ifdef __cplusplus
 }

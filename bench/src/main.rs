@@ -1,11 +1,13 @@
 //! The proved library against a plain Rust program of the same job, in one run.
 //!
 //!     bench [--quick]                  compare, measure, print the tables
+//!     bench aplic [--quick]            those of the wired domain alone
 //!     bench before [--quick] TEXT      rows with that text in their names, on the archive of an
 //!                                      earlier commit too; made by `bench/before`
 //!     bench alone ROW SIDE N           run one row N times on one side (proved, plain, before), for
 //!                                      instruction counts
 
+mod aplic;
 mod call;
 mod check;
 mod clock;
@@ -15,13 +17,15 @@ mod program;
 mod proved;
 mod rows;
 mod tables;
+mod timing;
 
-use measure::{side, Side, Times};
+use measure::{side, Side};
 use program::{Plain, Proved};
 use rows::Row;
 use std::env;
 use std::process::ExitCode;
 use std::slice;
+use timing::{Measured, Times};
 
 const PROVED: Side = side::<Proved>("proved");
 const PLAIN: Side = side::<Plain>("plain");
@@ -32,6 +36,9 @@ const ALL: &[Side] = &[
     #[cfg(before)]
     side::<program::Before>("before"),
 ];
+
+const USAGE: &str = "usage: bench [--quick] | bench aplic [--quick] | \
+                     bench before [--quick] TEXT | bench alone ROW SIDE N";
 
 /// How much is measured.
 struct Effort {
@@ -59,13 +66,12 @@ fn main() -> ExitCode {
     let done = match words[..] {
         [] => measure_all(&FULL),
         ["--quick"] => measure_all(&QUICK),
+        ["aplic"] => measure_domain(&FULL),
+        ["aplic", "--quick"] => measure_domain(&QUICK),
         ["before", text] => measure_before(&FULL, text),
         ["before", "--quick", text] => measure_before(&QUICK, text),
         ["alone", row, side, times] => alone(row, side, times),
-        _ => Err(
-            "usage: bench [--quick] | bench before [--quick] TEXT | bench alone ROW SIDE N"
-                .to_string(),
-        ),
+        _ => Err(USAGE.to_string()),
     };
     match done {
         Ok(()) => ExitCode::SUCCESS,
@@ -105,13 +111,29 @@ fn measure_all(effort: &Effort) -> Result<(), String> {
     println!(
         "Growth: the proved library's cost over its cost in the first row, in the same round."
     );
+    println!("\nThe wired domain:\n");
+    measure_domain(effort)
+}
+
+/// The rows of the wired domain.
+fn measure_domain(effort: &Effort) -> Result<(), String> {
+    // A list of a domain has about ten times the calls of one of the IOMMU.
+    let calls = aplic::check(1, effort.lists / 10)?;
+    println!("Answers compared over {calls} generated calls: proved = plain = reference.\n");
+    println!("| Row | proved, ns | plain, ns | ratio | least to greatest |");
+    println!("|---|---|---|---|---|");
+    for row in aplic::rows() {
+        aplic::compare(&row)?;
+        let times = time_one(&row, &aplic::BOTH, effort);
+        println!("| {} | {} |", row.name, columns(&times));
+    }
     Ok(())
 }
 
 /// A row by itself.
-fn time_one(row: &Row, sides: &[Side], effort: &Effort) -> Times {
+fn time_one<R: Measured>(row: &R, sides: &[R::Side], effort: &Effort) -> Times {
     let rows = slice::from_ref(row);
-    let mut times = measure::time(rows, sides, effort.rounds, effort.nanoseconds);
+    let mut times = timing::time(rows, sides, effort.rounds, effort.nanoseconds);
     times.remove(0)
 }
 
@@ -135,7 +157,7 @@ fn together(rows: Vec<Row>, effort: &Effort) -> Result<(), String> {
     for row in &rows {
         measure::compare(row, &BOTH)?;
     }
-    let all = measure::time(&rows, &BOTH, effort.rounds, effort.nanoseconds);
+    let all = timing::time(&rows, &BOTH, effort.rounds, effort.nanoseconds);
     for (row, times) in rows.iter().zip(&all) {
         let growth = ratio(times.growth(&all[0]));
         println!("| {} | {} | {growth} |", row.name, columns(times));
@@ -173,19 +195,26 @@ fn measure_before(effort: &Effort, text: &str) -> Result<(), String> {
 }
 
 fn alone(name: &str, side: &str, times: &str) -> Result<(), String> {
-    let side = ALL
-        .iter()
-        .find(|known| known.name == side)
-        .ok_or(format!("no side {side}"))?;
     let times = times.parse().map_err(|_| format!("no number: {times}"))?;
+    let unknown = || format!("no side {side}");
     let mut rows = rows::main_rows();
     rows.append(&mut rows::window_rows());
     rows.append(&mut rows::depth_rows());
-    let row = rows
-        .iter()
-        .find(|row| row.name.starts_with(name))
-        .ok_or(format!("no row {name}"))?;
-    let sum = measure::alone(*side, row, times);
-    println!("{}, {} calls, sum {sum:x}", row.name, row.calls.len());
+    let (row, calls, sum) = match rows.iter().find(|row| row.name.starts_with(name)) {
+        Some(row) => {
+            let side = ALL.iter().find(|known| known.name == side);
+            let sum = timing::alone(*side.ok_or_else(unknown)?, row, times);
+            (row.name.clone(), row.calls(), sum)
+        }
+        None => {
+            let rows = aplic::rows();
+            let row = rows.iter().find(|row| row.name.starts_with(name));
+            let row = row.ok_or(format!("no row {name}"))?;
+            let side = aplic::BOTH.into_iter().find(|known| known.name == side);
+            let sum = timing::alone(side.ok_or_else(unknown)?, row, times);
+            (row.name.to_string(), row.calls(), sum)
+        }
+    };
+    println!("{row}, {calls} calls, sum {sum:x}");
     Ok(())
 }

@@ -1,9 +1,9 @@
-//! Programs over a row: compared call by call, then timed in turn.
+//! Programs over a row: compared call by call, and run over it.
 
 use crate::call::{Call, Numbers, Settings};
-use crate::clock::thread_nanoseconds;
 use crate::program::Program;
 use crate::rows::{Kind, Row};
+use crate::timing::Measured;
 use std::hint::black_box;
 
 /// A program, by its one call and by its loop over a row's calls.
@@ -54,12 +54,6 @@ fn run<P: Program>(row: &Row, window: &mut [u8]) -> u64 {
     }
 }
 
-/// Runs one side alone, for a counter of instructions.
-pub fn alone(side: Side, row: &Row, times: u64) -> u64 {
-    let mut window = row.world.bytes.clone();
-    (0..times).fold(0, |sum, _| sum ^ (side.run)(row, &mut window))
-}
-
 /// Each call on two sides, with the same answer, of the row's kind, and the same bytes after them.
 fn compare_two(row: &Row, ours: Side, theirs: Side) -> Result<(), String> {
     let settings = row.world.settings;
@@ -103,95 +97,19 @@ pub fn compare(row: &Row, sides: &[Side]) -> Result<(), String> {
         .try_for_each(|other| compare_two(row, sides[0], *other))
 }
 
-/// Nanoseconds a call: for each round, of each side.
-pub struct Times(Vec<Vec<f64>>);
+impl Measured for Row {
+    type Side = Side;
+    type State = Vec<u8>;
 
-impl Times {
-    /// Of one side: median, least, greatest.
-    pub fn of(&self, side: usize) -> [f64; 3] {
-        spread(self.0.iter().map(|round| round[side]).collect())
+    fn calls(&self) -> usize {
+        self.calls.len()
     }
 
-    /// One side's rate over another's, within a round: median, least, greatest.
-    pub fn rate(&self, side: usize, other: usize) -> [f64; 3] {
-        let over = |round: &Vec<f64>| round[other] / round[side];
-        spread(self.0.iter().map(over).collect())
+    fn start(&self) -> Vec<u8> {
+        self.world.bytes.clone()
     }
 
-    /// The first side's cost over its cost in another row, within a round.
-    pub fn growth(&self, from: &Times) -> [f64; 3] {
-        let rounds = self.0.iter().zip(&from.0);
-        spread(rounds.map(|(here, there)| here[0] / there[0]).collect())
+    fn run(&self, side: Side, window: &mut Vec<u8>) -> u64 {
+        (side.run)(self, window)
     }
-}
-
-/// A row under measurement: a window for each side, and how often a round runs its calls.
-struct Bench<'a> {
-    row: &'a Row,
-    sides: &'a [Side],
-    windows: Vec<Vec<u8>>,
-    times: u64,
-}
-
-impl Bench<'_> {
-    /// Nanoseconds a call on one side.
-    fn once(&mut self, side: usize) -> f64 {
-        let run = self.sides[side].run;
-        let window = &mut self.windows[side];
-        let begin = thread_nanoseconds();
-        let mut sum = 0;
-        for _ in 0..self.times {
-            sum ^= run(self.row, window);
-        }
-        black_box(sum);
-        let spent = thread_nanoseconds() - begin;
-        spent as f64 / (self.times as f64 * self.row.calls.len() as f64)
-    }
-
-    /// All sides; each round begins with another.
-    fn all(&mut self, round: usize) -> Vec<f64> {
-        let count = self.sides.len();
-        let mut times = vec![0.0; count];
-        for turn in 0..count {
-            let side = (round + turn) % count;
-            times[side] = self.once(side);
-        }
-        times
-    }
-}
-
-/// Times rows together: each round runs every row on all sides, so that the machine's own drift
-/// falls on all of them alike.
-pub fn time(rows: &[Row], sides: &[Side], rounds: usize, nanoseconds: f64) -> Vec<Times> {
-    let warmed = rows.iter().map(|row| warm(row, sides, nanoseconds));
-    let mut benches: Vec<Bench> = warmed.collect();
-    let mut seen: Vec<Vec<Vec<f64>>> = vec![Vec::new(); rows.len()];
-    for round in 0..rounds {
-        for (bench, seen) in benches.iter_mut().zip(&mut seen) {
-            seen.push(bench.all(round));
-        }
-    }
-    seen.into_iter().map(Times).collect()
-}
-
-/// Runs a row on all sides, and finds how often a round is to run it.
-fn warm<'a>(row: &'a Row, sides: &'a [Side], nanoseconds: f64) -> Bench<'a> {
-    let mut bench = Bench {
-        row,
-        sides,
-        windows: vec![row.world.bytes.clone(); sides.len()],
-        times: 2,
-    };
-    let slowest = bench.all(0).into_iter().fold(0.0, f64::max);
-    let once = slowest * row.calls.len() as f64;
-    bench.times = (nanoseconds / once).ceil() as u64;
-    bench.all(1);
-    bench
-}
-
-/// Median, least and greatest.
-fn spread(mut sorted: Vec<f64>) -> [f64; 3] {
-    sorted.sort_by(f64::total_cmp);
-    let last = sorted.len() - 1;
-    [sorted[last / 2], sorted[0], sorted[last]]
 }

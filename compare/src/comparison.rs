@@ -2,11 +2,13 @@
 
 use std::fmt;
 
-use yasmurekh_reference::generate::{Call, List};
+use yasmurekh_reference::generate::{self, Call, List};
 use yasmurekh_reference::ledger::Ledger;
-use yasmurekh_reference::text::write_answer;
+use yasmurekh_reference::text::{write_answer, write_list};
 use yasmurekh_reference::{Answer, Report};
 
+use crate::run::Subject;
+use crate::shrink::shrink;
 use crate::side::Side;
 
 /// The first difference of a list; calls are counted from 0.
@@ -225,5 +227,32 @@ impl<L: Side, R: Side> Comparison<L, R> {
             });
         }
         Ok(())
+    }
+}
+
+impl<L: Side, R: Side> Subject for Comparison<L, R> {
+    type List = List;
+    type Difference = Difference;
+
+    fn list(seed: u64, index: u64, calls: usize) -> List {
+        let mut list = generate::list(seed, index);
+        list.calls.truncate(calls);
+        list
+    }
+
+    fn calls(list: &List) -> usize {
+        list.calls.len()
+    }
+
+    fn compare(&mut self, list: &List) -> Result<u64, Difference> {
+        self.list(list)
+    }
+
+    fn shrink(list: List, holds: impl FnMut(&List) -> bool) -> List {
+        shrink(list, holds)
+    }
+
+    fn text(index: u64, list: &List) -> String {
+        write_list(index, list)
     }
 }

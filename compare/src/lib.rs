@@ -1,14 +1,16 @@
 //! The proved library compared with the reference program: call by call, byte by byte of the
-//! window, report by report, with the ledger of each list recomputed from the library's answers.
+//! window, report by report, with the ledger of each list recomputed from the library's answers; and
+//! the wired domain call by call and register by register.
 
 #![forbid(unsafe_code)]
 
+pub mod aplic;
 pub mod comparison;
 pub mod run;
 pub mod shrink;
 pub mod side;
 
 pub use comparison::{Comparison, Difference};
-pub use run::{run, Found, Options, Outcome};
+pub use run::{run, Found, Options, Outcome, Subject};
 pub use shrink::shrink;
 pub use side::{Library, Reference, Side};

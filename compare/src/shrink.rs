@@ -1,5 +1,7 @@
 //! Makes a list smaller while something about it stays true.
 
+use std::ops::Range;
+
 use yasmurekh_reference::coverage::run_call;
 use yasmurekh_reference::generate::{Call, List};
 use yasmurekh_reference::{Access, Answer, Request};
@@ -43,20 +45,10 @@ impl<H: FnMut(&List) -> bool> Shrinker<H> {
         kept
     }
 
-    /// Drops runs of calls, long runs first.
     fn drop_calls(&mut self) -> bool {
-        let mut smaller = false;
-        let mut run = self.list.calls.len();
-        while run > 0 {
-            let mut end = self.list.calls.len();
-            while end > 0 {
-                let first = end.saturating_sub(run);
-                smaller |= self.keep(|list| drop(list.calls.drain(first..end)));
-                end = first;
-            }
-            run /= 2;
-        }
-        smaller
+        drop_runs(self.list.calls.len(), |run| {
+            self.keep(|list| drop(list.calls.drain(run)))
+        })
     }
 
     /// Drops first calls, with the window as the reference has it after them.
@@ -150,8 +142,26 @@ impl<H: FnMut(&List) -> bool> Shrinker<H> {
     }
 }
 
+/// Offers runs of so many calls to be dropped, long runs first; says whether one of them was.
+pub fn drop_runs(mut calls: usize, mut dropped: impl FnMut(Range<usize>) -> bool) -> bool {
+    let before = calls;
+    let mut run = calls;
+    while run > 0 {
+        let mut end = calls;
+        while end > 0 {
+            let first = end.saturating_sub(run);
+            if dropped(first..end) {
+                calls -= end - first;
+            }
+            end = first;
+        }
+        run /= 2;
+    }
+    calls < before
+}
+
 /// Smaller numbers to try: 0, 1, then those with a bit less, from the highest on.
-fn simpler_numbers(number: u64) -> Vec<u64> {
+pub fn simpler_numbers(number: u64) -> Vec<u64> {
     let bits = (0..64).rev().filter(|bit| number >> bit & 1 == 1);
     let with_less = bits.map(|bit| number & !(1 << bit));
     let small = [0, 1].into_iter().filter(|small| *small < number);

@@ -2,6 +2,7 @@
 
 use std::process::{Command, Output};
 
+use yasmurekh_reference::aplic;
 use yasmurekh_reference::generate::list;
 use yasmurekh_reference::text::write_list;
 
@@ -50,6 +51,30 @@ fn lists_are_replayed() {
     assert_eq!(output.status.code(), Some(0));
     assert!(last_line(&output).starts_with("# 20 lists, "));
     assert!(last_line(&output).ends_with(" 0 different"));
+}
+
+#[test]
+fn the_wired_domain() {
+    let run = compare(&["--aplic", "--seed", "5", "--count", "3000", "--coverage"]);
+    assert_eq!(run.status.code(), Some(0));
+    let text = String::from_utf8_lossy(&run.stdout);
+    assert!(text.contains("pending bits (4.1.7)") && text.contains(" marks met\n"));
+    let line = last_line(&run);
+    assert!(line.starts_with("seed 5, lists 0 to "), "{line}");
+    let end = " registers of the wired domain compared, 0 differences";
+    assert!(line.ends_with(end), "{line}");
+
+    let path = std::path::Path::new(env!("CARGO_TARGET_TMPDIR")).join("domains.txt");
+    let text: String = (0..20)
+        .map(|index| aplic::text::write_list(index, &aplic::list(9, index)))
+        .collect();
+    std::fs::write(&path, text).expect("written");
+    let path = path.to_str().expect("a path of text");
+    let output = compare(&["--aplic", "--replay", path]);
+    assert_eq!(output.status.code(), Some(0));
+    assert!(last_line(&output).starts_with("# 20 lists, "));
+    // Its lists are none of the IOMMU.
+    assert_eq!(compare(&["--replay", path]).status.code(), Some(2));
 }
 
 #[test]

@@ -48,10 +48,10 @@ fn find<L: Side, R: Side>(library: L, reference: R) -> Found {
     let mut comparison = Comparison::new(library, reference);
     let outcome = run(&mut comparison, &OPTIONS, &mut std::io::sink());
     let found = outcome.found.expect("a difference");
-    println!("{}", found.text());
+    println!("{}", found.text);
 
     let mut lists: Vec<List> = Vec::new();
-    read_lists(&found.text(), |written| lists.push(written.list)).expect("readable");
+    read_lists(&found.text, |written| lists.push(written.list)).expect("readable");
     assert_eq!(lists.len(), 1);
     assert_eq!(lists[0], found.smallest);
     let again = comparison.list(&lists[0]);

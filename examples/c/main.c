@@ -1,6 +1,7 @@
 /*
  * A small use of Yasmurekh from C: one window with tables and interrupt files,
- * a translation under both stages, a message, its take, a refusal and faults.
+ * a translation under both stages, a message, its take, a refusal and faults;
+ * and a fan that signals by wire.
  */
 #include <inttypes.h>
 #include <stdio.h>
@@ -188,6 +189,67 @@ static void edges(void)
     show("empty window", out);
 }
 
+/* The wired domain, at reset: a fan holds the wire of source 7 high while it is stuck. */
+#define FAN 7u
+static uint64_t domain[YASMUREKH_APLIC_WORDS];
+
+static uint64_t read_register(uint64_t offset)
+{
+    uint64_t out[YASMUREKH_APLIC_READ_WORDS];
+
+    yasmurekh_aplic_read(domain, YASMUREKH_APLIC_WORDS, offset, out, YASMUREKH_APLIC_READ_WORDS);
+    return out[0];
+}
+
+static void write_register(uint64_t offset, uint32_t value)
+{
+    yasmurekh_aplic_write(domain, YASMUREKH_APLIC_WORDS, offset, value);
+}
+
+/* Gives the fan's wire a level, or another wire. */
+static void wire(const char *what, uint64_t source, uint64_t level)
+{
+    uint64_t status = yasmurekh_aplic_wire(domain, YASMUREKH_APLIC_WORDS, source, level);
+
+    printf("%s: status %" PRIu64 ", pending 0x%" PRIx64 ", input 0x%" PRIx64 "\n", what, status,
+           read_register(YASMUREKH_APLIC_SETIP(0)), read_register(YASMUREKH_APLIC_IN_CLRIP(0)));
+}
+
+/* Forwards one interrupt, and says where its message goes. */
+static void forward(const char *what)
+{
+    uint64_t out[YASMUREKH_APLIC_FORWARD_WORDS];
+
+    yasmurekh_aplic_forward(domain, YASMUREKH_APLIC_WORDS, out, YASMUREKH_APLIC_FORWARD_WORDS);
+    if (!out[YASMUREKH_APLIC_FORWARD_MADE])
+        printf("%s: nothing\n", what);
+    else
+        printf("%s: identity %" PRIu64 " to hart %" PRIu64 ", guest file %" PRIu64 "\n", what,
+               out[YASMUREKH_APLIC_FORWARD_IDENTITY], out[YASMUREKH_APLIC_FORWARD_HART],
+               out[YASMUREKH_APLIC_FORWARD_GUEST]);
+}
+
+static void fan(void)
+{
+    const uint32_t hart = 2u << YASMUREKH_APLIC_TARGET_HART_SHIFT;
+    const uint32_t guest = 1u << YASMUREKH_APLIC_TARGET_GUEST_SHIFT;
+
+    write_register(YASMUREKH_APLIC_DOMAINCFG, YASMUREKH_APLIC_DOMAINCFG_IE);
+    write_register(YASMUREKH_APLIC_SOURCECFG(FAN), YASMUREKH_APLIC_LEVEL1);
+    write_register(YASMUREKH_APLIC_TARGET(FAN), hart | guest | 37u);
+    write_register(YASMUREKH_APLIC_SETIENUM, FAN);
+    printf("domaincfg: 0x%" PRIx64 "\n", read_register(YASMUREKH_APLIC_DOMAINCFG));
+    wire("wire of the fan high", FAN, 1);
+    forward("forward");
+    forward("forward again");
+    write_register(YASMUREKH_APLIC_SETIPNUM, FAN);
+    forward("forward after setipnum, the wire still high");
+    wire("wire of the fan low", FAN, 0);
+    write_register(YASMUREKH_APLIC_SETIPNUM, FAN);
+    forward("forward after setipnum, the wire low");
+    wire("wire 64 high", 64, 1);
+}
+
 int main(void)
 {
     uint8_t before[sizeof window];
@@ -212,5 +274,6 @@ int main(void)
     request("an access numbered 3", DEVICE, 3, 0x1234, 8, 0);
     edges();
     printf("window after these: %s\n", memcmp(before, window, sizeof window) ? "changed" : "unchanged");
+    fan();
     return 0;
 }

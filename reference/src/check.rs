@@ -1,6 +1,7 @@
-//! The program's own checks: P1 to P14 of 01, its limits (with those of every scheme), and the order
-//! of its refusals.
+//! The program's own checks: P1 to P14 of 01, its limits (with those of every scheme), the order of
+//! its refusals, and the cases of the wired domain.
 
+use crate::aplic;
 use crate::device;
 use crate::generate::Call;
 use crate::iommu::{report, request, take};
@@ -67,6 +68,7 @@ pub fn all() -> Vec<Check> {
     two_stage_rules(&mut checks);
     message_rules(&mut checks);
     ledger_rules(&mut checks);
+    aplic::check::all(&mut checks);
     checks.made
 }
 

@@ -1,11 +1,13 @@
-//! An independent reference for the Yasmurekh IOMMU, written from the documents alone.
+//! An independent reference for the Yasmurekh IOMMU and its wired domain, written from the documents
+//! alone.
 //!
 //! "01" is the scope paper, "02" the paper of change requests, "003" the IOMMU data structures,
-//! "000" the IOMMU chapter of the Advanced Interrupt Architecture, "Priv" the RISC-V Privileged
-//! specification; D1, D2, .. are the entries of docs/DECISIONS.md.
+//! "000" the IOMMU chapter of the Advanced Interrupt Architecture, "002" its chapter on the APLIC,
+//! "Priv" the RISC-V Privileged specification; D1, D2, .. are the entries of docs/DECISIONS.md.
 
 #![forbid(unsafe_code)]
 
+pub mod aplic;
 pub mod check;
 pub mod coverage;
 pub mod damage;

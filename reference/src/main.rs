@@ -3,30 +3,29 @@
 use std::io::{Read, Write};
 use std::process::ExitCode;
 
+use yasmurekh_reference::aplic;
 use yasmurekh_reference::check;
 use yasmurekh_reference::coverage::Coverage;
 use yasmurekh_reference::generate::list;
-use yasmurekh_reference::text::{rerun, write_list};
+use yasmurekh_reference::text::{rerun, write_list, Rerun};
 
 const USAGE: &str = "usage:
   reference check                                  run the program's own checks
   reference coverage [--seed S] [--count N]        run N generated calls (1000000), print coverage
   reference lists --seed S --from A --count N      print generated lists with their answers
-  reference rerun                                  run lists from standard input again, compare";
+  reference rerun                                  run lists from standard input again, compare
+  reference aplic coverage|lists|rerun ..          the same for the wired domain";
 
 fn main() -> ExitCode {
     let words: Vec<String> = std::env::args().skip(1).collect();
-    let options = words.get(1..).unwrap_or(&[]);
     let done = match words.first().map(String::as_str) {
         None => {
             println!("{USAGE}");
             Ok(true)
         }
-        Some("check") if options.is_empty() => Ok(run_checks()),
-        Some("coverage") => run_coverage(options),
-        Some("lists") => print_lists(options),
-        Some("rerun") if options.is_empty() => run_again(),
-        _ => Err(USAGE.to_string()),
+        Some("check") if words.len() == 1 => Ok(run_checks()),
+        Some("aplic") => run_command(&words[1..], &APLIC),
+        _ => run_command(&words, &IOMMU),
     };
     match done {
         Ok(true) => ExitCode::SUCCESS,
@@ -72,10 +71,43 @@ fn run_checks() -> bool {
     failed == 0
 }
 
-fn run_coverage(options: &[String]) -> Result<bool, String> {
-    only(options, &["--seed", "--count"])?;
-    let seed = option(options, "--seed", Some(1))?;
-    let count = option(options, "--count", Some(1_000_000))?;
+/// What the commands do for one of the two programs.
+struct Program {
+    /// Runs so many calls of a seed, prints what they met, and says whether it holds.
+    coverage: fn(u64, u64) -> bool,
+    /// The text of a seed's list of an index.
+    list: fn(u64, u64) -> String,
+    rerun: fn(&str) -> Result<Rerun, String>,
+}
+
+const IOMMU: Program = Program {
+    coverage: iommu_coverage,
+    list: |seed, index| write_list(index, &list(seed, index)),
+    rerun,
+};
+
+const APLIC: Program = Program {
+    coverage: aplic_coverage,
+    list: |seed, index| aplic::text::write_list(index, &aplic::list(seed, index)),
+    rerun: aplic::text::rerun,
+};
+
+fn run_command(words: &[String], program: &Program) -> Result<bool, String> {
+    let options = words.get(1..).unwrap_or(&[]);
+    match words.first().map(String::as_str) {
+        Some("coverage") => {
+            only(options, &["--seed", "--count"])?;
+            let seed = option(options, "--seed", Some(1))?;
+            let count = option(options, "--count", Some(1_000_000))?;
+            Ok((program.coverage)(seed, count))
+        }
+        Some("lists") => print_lists(options, program),
+        Some("rerun") if options.is_empty() => run_again(program),
+        _ => Err(USAGE.to_string()),
+    }
+}
+
+fn iommu_coverage(seed: u64, count: u64) -> bool {
     let coverage = Coverage::run(seed, count);
     coverage.print();
     println!();
@@ -98,17 +130,34 @@ fn run_coverage(options: &[String]) -> Result<bool, String> {
     if zero.is_empty() {
         println!("nothing left at zero");
     }
-    Ok(coverage.holds())
+    coverage.holds()
 }
 
-fn print_lists(options: &[String]) -> Result<bool, String> {
+fn aplic_coverage(seed: u64, count: u64) -> bool {
+    let coverage = aplic::Coverage::run(seed, count);
+    coverage.print();
+    println!();
+    for failure in &coverage.failures {
+        println!("failed: {failure}");
+    }
+    println!(
+        "seed {seed}: {} lists, {} calls, {} failed",
+        coverage.lists,
+        coverage.calls,
+        coverage.failures.len()
+    );
+    coverage.print_rest();
+    coverage.holds()
+}
+
+fn print_lists(options: &[String], program: &Program) -> Result<bool, String> {
     only(options, &["--seed", "--from", "--count"])?;
     let seed = option(options, "--seed", None)?;
     let from = option(options, "--from", None)?;
     let count = option(options, "--count", None)?;
     let mut out = std::io::stdout().lock();
     for index in from..from.saturating_add(count) {
-        let text = write_list(index, &list(seed, index));
+        let text = (program.list)(seed, index);
         if out.write_all(text.as_bytes()).is_err() {
             return Ok(false);
         }
@@ -116,12 +165,12 @@ fn print_lists(options: &[String]) -> Result<bool, String> {
     Ok(true)
 }
 
-fn run_again() -> Result<bool, String> {
+fn run_again(program: &Program) -> Result<bool, String> {
     let mut text = String::new();
     if std::io::stdin().read_to_string(&mut text).is_err() {
         return Err("standard input can't be read as text".to_string());
     }
-    let result = rerun(&text)?;
+    let result = (program.rerun)(&text)?;
     for line in &result.different {
         println!("different: {line}");
     }

@@ -19,6 +19,8 @@ macro_rules! named {
     };
 }
 
+pub(crate) use named;
+
 named!(
     /// The four walks: the first stage, and the second stage in its three roles.
     Walk {

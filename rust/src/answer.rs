@@ -83,6 +83,14 @@ pub(crate) fn taken([kind, first, ..]: [u64; 5]) -> Result<bool, Refusal> {
     }
 }
 
+/// A wire change's status: done, or the refusal.
+pub(crate) fn wired(status: u64) -> Result<(), Refusal> {
+    match status {
+        0 => Ok(()),
+        _ => Err(Refusal::from_number(status)),
+    }
+}
+
 /// The library answers no number that this crate doesn't name.
 #[cold]
 fn another_version(what: &str, number: u64) -> ! {
@@ -236,11 +244,13 @@ pub enum Refusal {
     File,
     /// 2009: take: the identity is above 2,047.
     Identity,
+    /// 2014: wire change of a domain: no source has that number, 1 to 63.
+    Source,
 }
 
 impl Refusal {
     /// All refusals, in the order of their numbers.
-    pub const ALL: [Refusal; 9] = [
+    pub const ALL: [Refusal; 10] = [
         Refusal::Window,
         Refusal::Directory,
         Refusal::DeviceId,
@@ -250,6 +260,7 @@ impl Refusal {
         Refusal::FileOutside,
         Refusal::File,
         Refusal::Identity,
+        Refusal::Source,
     ];
 
     fn from_number(number: u64) -> Refusal {
@@ -263,13 +274,25 @@ impl Refusal {
             2007 => Refusal::FileOutside,
             2008 => Refusal::File,
             2009 => Refusal::Identity,
+            2014 => Refusal::Source,
             _ => another_version("refusal", number),
         }
     }
 
-    /// The refusal's number, from 2001 on in the order of the variants.
+    /// The refusal's number, larger in the order of the variants.
     pub const fn number(self) -> u64 {
-        2001 + self as u64
+        match self {
+            Refusal::Window => 2001,
+            Refusal::Directory => 2002,
+            Refusal::DeviceId => 2003,
+            Refusal::ProcessId => 2004,
+            Refusal::Supervisor => 2005,
+            Refusal::Length => 2006,
+            Refusal::FileOutside => 2007,
+            Refusal::File => 2008,
+            Refusal::Identity => 2009,
+            Refusal::Source => 2014,
+        }
     }
 }
 
@@ -285,6 +308,7 @@ impl fmt::Display for Refusal {
             Refusal::FileOutside => "the message's file isn't in the window",
             Refusal::File => "no interrupt file of the window is at that address",
             Refusal::Identity => "the identity is above 2,047",
+            Refusal::Source => "no source of the domain has that number",
         };
         write!(f, "refused ({}): {why}", self.number())
     }

@@ -1,7 +1,7 @@
 //! The face for C, called: all of this crate's `unsafe` is here.
 #![allow(unsafe_code)]
 
-use crate::{Access, Privilege, Request, Settings};
+use crate::{answer, Access, Privilege, Refusal, Request, Settings};
 
 mod c {
     extern "C" {
@@ -40,8 +40,40 @@ mod c {
             out: *mut u64,
             out_length: usize,
         ) -> u64;
+
+        pub fn yasmurekh_aplic_wire(
+            state: *mut u64,
+            state_length: usize,
+            source: u64,
+            level: u64,
+        ) -> u64;
+
+        pub fn yasmurekh_aplic_write(
+            state: *mut u64,
+            state_length: usize,
+            offset: u64,
+            value: u32,
+        ) -> u64;
+
+        pub fn yasmurekh_aplic_read(
+            state: *mut u64,
+            state_length: usize,
+            offset: u64,
+            out: *mut u64,
+            out_length: usize,
+        ) -> u64;
+
+        pub fn yasmurekh_aplic_forward(
+            state: *mut u64,
+            state_length: usize,
+            out: *mut u64,
+            out_length: usize,
+        ) -> u64;
     }
 }
+
+/// Words of a domain's state.
+pub const DOMAIN_WORDS: usize = 71;
 
 /// Flag of a request: a process_id is given.
 const PROCESS: u64 = 1;
@@ -130,9 +162,56 @@ pub fn report(start: u64, window: &[u8], file: u64) -> [u64; 66] {
     out
 }
 
+/// A wire change: done, or the refusal.
+pub fn aplic_wire(state: &mut [u64; DOMAIN_WORDS], source: u64, high: bool) -> Result<(), Refusal> {
+    // SAFETY: the pointer is that of a mutable array, passed with its length and borrowed until the
+    // call is over. The routine is proved to touch nothing else, and to end, for every value of the
+    // words and the numbers.
+    let status = unsafe {
+        c::yasmurekh_aplic_wire(state.as_mut_ptr(), state.len(), source, u64::from(high))
+    };
+    answer::wired(status)
+}
+
+/// A write of a register.
+pub fn aplic_write(state: &mut [u64; DOMAIN_WORDS], offset: u64, value: u32) {
+    // SAFETY: as in `aplic_wire`.
+    let status =
+        unsafe { c::yasmurekh_aplic_write(state.as_mut_ptr(), state.len(), offset, value) };
+    debug_assert_eq!(status, 0);
+}
+
+/// A read of a register: its 32 bits.
+pub fn aplic_read(state: &mut [u64; DOMAIN_WORDS], offset: u64) -> u32 {
+    let mut out = [0; 1];
+    // SAFETY: as in `aplic_wire`; `out` is a local, so the two share no byte.
+    let status = unsafe {
+        c::yasmurekh_aplic_read(
+            state.as_mut_ptr(),
+            state.len(),
+            offset,
+            out.as_mut_ptr(),
+            out.len(),
+        )
+    };
+    debug_assert_eq!(status, 0);
+    out[0] as u32
+}
+
+/// A forward's words: 1 or 0, hart index, guest index, identity.
+pub fn aplic_forward(state: &mut [u64; DOMAIN_WORDS]) -> [u64; 4] {
+    let mut out = [0; 4];
+    // SAFETY: as in `aplic_read`.
+    let status = unsafe {
+        c::yasmurekh_aplic_forward(state.as_mut_ptr(), state.len(), out.as_mut_ptr(), out.len())
+    };
+    debug_assert_eq!(status, 0);
+    out
+}
+
 #[cfg(test)]
 mod tests {
-    use super::c;
+    use super::{c, DOMAIN_WORDS};
 
     /// A request of 4 bytes in mode Off with these flags and access, over one page.
     fn raw_request(flags: u64, access: u64, out: &mut [u64]) -> (u64, [u8; 4096]) {
@@ -200,6 +279,121 @@ mod tests {
             let (status, window) = raw_request(flags, access, &mut out);
             assert_eq!((status, out), (0, [5, 2010, 0, 0, 0]));
             assert_eq!(window, [0xA5; 4096]);
+        }
+    }
+
+    /// Words that are no domain that the architecture describes, and numbers to give with them.
+    struct Numbers(u64);
+
+    impl Numbers {
+        fn next(&mut self) -> u64 {
+            self.0 = self.0.wrapping_add(0x9E37_79B9_7F4A_7C15);
+            let mixed = (self.0 ^ (self.0 >> 31)).wrapping_mul(0xBF58_476D_1CE4_E5B9);
+            mixed ^ (mixed >> 29)
+        }
+
+        /// A number of any size.
+        fn any(&mut self) -> u64 {
+            self.next() >> (self.next() % 64)
+        }
+    }
+
+    /// The four calls over a state of any length and any words, with these numbers; the statuses.
+    fn four_calls(state: &mut [u64], numbers: [u64; 2], out: &mut [u64]) -> [u64; 4] {
+        let [first, second] = numbers;
+        let (words, length) = (state.as_mut_ptr(), state.len());
+        let (given, room) = (out.as_mut_ptr(), out.len());
+        // SAFETY: as in `super::aplic_read`, with a slice's own length.
+        unsafe {
+            [
+                c::yasmurekh_aplic_wire(words, length, first, second),
+                c::yasmurekh_aplic_write(words, length, first, second as u32),
+                c::yasmurekh_aplic_read(words, length, first, given, room),
+                c::yasmurekh_aplic_forward(words, length, given, room),
+            ]
+        }
+    }
+
+    #[test]
+    fn short_state_changes_nothing() {
+        // Source 0 would be refused: the length is looked at first.
+        for source in [0, 5, 64] {
+            for length in [0, 1, DOMAIN_WORDS - 1] {
+                let mut state = [u64::MAX; DOMAIN_WORDS];
+                let mut out = [7; 4];
+                let found = four_calls(&mut state[..length], [source, 1], &mut out);
+                assert_eq!((found, out), ([1; 4], [7; 4]));
+                assert_eq!(state, [u64::MAX; DOMAIN_WORDS]);
+            }
+        }
+    }
+
+    #[test]
+    fn short_output_of_a_domain_changes_nothing() {
+        let mut state = [u64::MAX; DOMAIN_WORDS];
+        for length in 0..4 {
+            let mut out = [7; 4];
+            // SAFETY: as in `super::aplic_forward`.
+            let status = unsafe {
+                c::yasmurekh_aplic_forward(
+                    state.as_mut_ptr(),
+                    state.len(),
+                    out.as_mut_ptr(),
+                    length,
+                )
+            };
+            assert_eq!((status, out), (1, [7; 4]));
+            assert_eq!(state, [u64::MAX; DOMAIN_WORDS]);
+        }
+        // SAFETY: as in `super::aplic_read`; nothing is read or written through the second pointer.
+        let status = unsafe {
+            let nothing = core::ptr::null_mut();
+            c::yasmurekh_aplic_read(state.as_mut_ptr(), state.len(), 0, nothing, 0)
+        };
+        assert_eq!((status, state), (1, [u64::MAX; DOMAIN_WORDS]));
+    }
+
+    #[test]
+    fn any_level_but_0_is_high() {
+        for level in [1, 2, 1 << 32, u64::MAX] {
+            let mut state = [0; DOMAIN_WORDS];
+            super::aplic_write(&mut state, 4 * 63, 6);
+            // SAFETY: as in `super::aplic_wire`.
+            let status =
+                unsafe { c::yasmurekh_aplic_wire(state.as_mut_ptr(), state.len(), 63, level) };
+            assert_eq!(status, 0);
+            assert_eq!(super::aplic_read(&mut state, 0x1D04), 1 << 31);
+            // SAFETY: as in `super::aplic_wire`.
+            let status = unsafe { c::yasmurekh_aplic_wire(state.as_mut_ptr(), state.len(), 63, 0) };
+            assert_eq!(status, 0);
+            assert_eq!(super::aplic_read(&mut state, 0x1D04), 0);
+        }
+    }
+
+    #[test]
+    fn any_words_are_answered_and_the_end_is_kept() {
+        let mut numbers = Numbers(1);
+        for round in 0..20_000 {
+            let mut state = [0; DOMAIN_WORDS + 5];
+            for word in &mut state {
+                *word = match round % 3 {
+                    0 => numbers.next(),
+                    1 => numbers.any(),
+                    _ => u64::MAX,
+                };
+            }
+            let end = [0, 1, 2, 3, 4].map(|place| state[DOMAIN_WORDS + place]);
+            let mut out = [7; 6];
+            let mut number = numbers.any() % 0x4200;
+            if round % 4 == 0 {
+                number = numbers.any();
+            }
+            let found = four_calls(&mut state, [number, numbers.any()], &mut out);
+            let wire = if (1..64).contains(&number) { 0 } else { 2014 };
+            assert_eq!(found, [wire, 0, 0, 0]);
+            assert_eq!(state[DOMAIN_WORDS..], end);
+            assert_eq!(out[4..], [7, 7]);
+            assert!(out[0] <= 1 && out[0] == 1 || out[..4] == [0; 4]);
         }
     }
 }

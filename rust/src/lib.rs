@@ -4,9 +4,9 @@
 //! leaves behind, is proved. This crate gives them Rust types. It allocates nothing, keeps no state
 //! between calls, needs no `std`, and has no `unsafe` in its public face.
 //!
-//! There are three calls. Each is lent one window of physical memory, bytes that stand for the
-//! addresses from [`Settings::start`] on and hold all tables and all interrupt files. Every input
-//! gets an answer: there is nothing that a caller has to check first.
+//! There are three calls of the IOMMU. Each is lent one window of physical memory, bytes that stand
+//! for the addresses from [`Settings::start`] on and hold all tables and all interrupt files. Every
+//! input gets an answer: there is nothing that a caller has to check first.
 //!
 //! | Call | What it does | What may change |
 //! |---|---|---|
@@ -17,6 +17,9 @@
 //! Page tables may be Sv39, Sv48 or Sv57 for the first stage (modes 8, 9 and 10 of fsc) and Sv39x4,
 //! Sv48x4 or Sv57x4 for the second (those modes of iohgatp), in any pair. Guest addresses have 59
 //! bits, so the message mask and pattern have 47.
+//!
+//! Devices that signal by a wire have a domain of an interrupt controller of their own, which makes
+//! messages of their signals: [`aplic::Domain`]. It has nothing to do with a window.
 //!
 //! # Example
 //!
@@ -66,6 +69,8 @@
 #![no_std]
 #![warn(missing_docs)]
 #![deny(unsafe_code)]
+
+pub mod aplic;
 
 mod answer;
 mod face;

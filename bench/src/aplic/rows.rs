@@ -1,0 +1,245 @@
+//! The rows of the wired domain: a domain that is set up, and calls over it.
+
+use super::program::Forwarded;
+use yasmurekh_reference::aplic::{Mask, Number, Register};
+use yasmurekh_reference::random::Random;
+
+/// What a call is.
+#[derive(Clone, Copy, Debug, PartialEq, Eq)]
+pub enum Kind {
+    Wire,
+    Read,
+    Write,
+    Forward,
+}
+
+/// One call: a wire's number and level, or an offset and a value.
+#[derive(Clone, Copy, Debug)]
+pub struct Call {
+    pub kind: Kind,
+    pub number: u32,
+    pub value: u32,
+}
+
+impl Call {
+    pub fn wire(source: u32, high: bool) -> Call {
+        Call {
+            kind: Kind::Wire,
+            number: source,
+            value: u32::from(high),
+        }
+    }
+
+    pub fn read(offset: u32) -> Call {
+        Call {
+            kind: Kind::Read,
+            number: offset,
+            value: 0,
+        }
+    }
+
+    pub fn write(register: Register, value: u32) -> Call {
+        Call {
+            kind: Kind::Write,
+            number: register.offset() as u32,
+            value,
+        }
+    }
+
+    pub const FORWARD: Call = Call {
+        kind: Kind::Forward,
+        number: 0,
+        value: 0,
+    };
+}
+
+pub struct Row {
+    pub name: &'static str,
+    /// The kind of the row's calls, where it is one for all.
+    pub kind: Option<Kind>,
+    pub set_up: Vec<Call>,
+    pub calls: Vec<Call>,
+    /// Whether an answer is one that the row is named after.
+    pub expected: fn(&Call, Forwarded) -> bool,
+}
+
+/// Calls of a row; in random order, so that no branch predictor learns it by heart.
+const CALLS: usize = 8_192;
+/// Calls of the mix.
+const MIX: usize = 262_144;
+
+const MODES: [u32; 5] = [1, 4, 5, 6, 7];
+
+/// A domain with IE, and all sources active, in all modes, with targets; half of them enabled.
+fn set_up() -> Vec<Call> {
+    let mut random = Random::new(12, 0);
+    let mut calls = vec![Call::write(Register::Domaincfg, 0x100)];
+    for source in 1..64 {
+        let mode = MODES[source as usize % MODES.len()];
+        calls.push(Call::write(Register::Sourcecfg(source), mode));
+        calls.push(Call::write(
+            Register::Target(source),
+            random.number() as u32,
+        ));
+        if random.chance(50) {
+            let setienum = Register::Number(Number::Setienum);
+            calls.push(Call::write(setienum, source as u32));
+        }
+    }
+    calls
+}
+
+/// The same domain with all sources detached, enabled and not pending, so that a pending bit comes and
+/// stays by writes and forwards alone.
+fn set_up_detached() -> Vec<Call> {
+    let mut calls = set_up();
+    let detached = (1..64).map(|source| Call::write(Register::Sourcecfg(source), 1));
+    calls.extend(detached);
+    for mask in [Mask::Setie, Mask::InClrip] {
+        calls.extend([0, 1].map(|half| mask_write(mask, half, u32::MAX)));
+    }
+    calls
+}
+
+fn mask_write(mask: Mask, half: u64, value: u32) -> Call {
+    Call::write(Register::Mask(mask, half), value)
+}
+
+fn row(name: &'static str, kind: Kind, call: fn(&mut Random) -> Call) -> Row {
+    let mut random = Random::new(13, 0);
+    Row {
+        name,
+        kind: Some(kind),
+        set_up: set_up(),
+        calls: (0..CALLS).map(|_| call(&mut random)).collect(),
+        expected: |_, _| true,
+    }
+}
+
+fn source(random: &mut Random) -> u64 {
+    random.between(1, 63)
+}
+
+fn wire_change(random: &mut Random) -> Call {
+    Call::wire(source(random) as u32, random.chance(50))
+}
+
+/// A write of some ones to one of two mask registers.
+fn some_mask(random: &mut Random, masks: [Mask; 2]) -> Call {
+    let mask = random.pick(&masks);
+    let ones = random.number() & random.number();
+    mask_write(mask, random.below(2), ones as u32)
+}
+
+fn by_number(random: &mut Random) -> Call {
+    let number = Register::Number(random.pick(&Number::ALL));
+    Call::write(number, source(random) as u32)
+}
+
+fn sourcecfg(random: &mut Random) -> Call {
+    Call::write(Register::Sourcecfg(source(random)), random.below(8) as u32)
+}
+
+fn target(random: &mut Random) -> Call {
+    Call::write(Register::Target(source(random)), random.number() as u32)
+}
+
+fn mask_read(random: &mut Random) -> Call {
+    let mask = random.pick(&[Mask::Setip, Mask::InClrip, Mask::Setie]);
+    Call::read(Register::Mask(mask, random.below(2)).offset() as u32)
+}
+
+fn source_read(random: &mut Random, register: fn(u64) -> Register) -> Call {
+    Call::read(register(source(random)).offset() as u32)
+}
+
+/// An offset of the region without a register.
+fn no_register(random: &mut Random) -> Call {
+    let offset = random.pick(&[
+        0x100, 0x1000, 0x1BC0, 0x1C08, 0x2004, 0x3000, 0x3100, 0x4000,
+    ]);
+    Call {
+        kind: Kind::Write,
+        number: offset + random.below(4) as u32,
+        value: random.number() as u32,
+    }
+}
+
+fn refused() -> Row {
+    let mut row = row("wire refused (2014)", Kind::Wire, |random| {
+        Call::wire(64 + random.below(1_000) as u32, true)
+    });
+    row.expected = |_, answer| answer[0] == 2014;
+    row
+}
+
+/// Sixty-three forwards, and two mask writes that make all pending again.
+fn forwards() -> Row {
+    let mut calls = Vec::new();
+    while calls.len() < CALLS {
+        calls.extend([0, 1].map(|half| mask_write(Mask::Setip, half, u32::MAX)));
+        calls.extend([Call::FORWARD; 63]);
+    }
+    Row {
+        name: "forward, some waiting (of 65 calls 2 are mask writes)",
+        kind: None,
+        set_up: set_up_detached(),
+        calls,
+        expected: |call, answer| call.kind != Kind::Forward || answer[0] == 1,
+    }
+}
+
+fn no_forwards() -> Row {
+    let mut row = row("forward, none waiting", Kind::Forward, |_| Call::FORWARD);
+    row.set_up = set_up_detached();
+    row.expected = |_, answer| answer == [0; 4];
+    row
+}
+
+/// Mostly wires and forwards, as a controller at work has them.
+fn mix() -> Row {
+    let mut random = Random::new(14, 0);
+    let calls = (0..MIX).map(|_| match random.below(100) {
+        0..=39 => wire_change(&mut random),
+        40..=69 => Call::FORWARD,
+        70..=79 => mask_read(&mut random),
+        80..=89 => by_number(&mut random),
+        90..=94 => some_mask(&mut random, [Mask::Setip, Mask::InClrip]),
+        95..=97 => target(&mut random),
+        _ => sourcecfg(&mut random),
+    });
+    Row {
+        name: "mix: 40 % wires, 30 % forwards, 30 % reads and writes",
+        kind: None,
+        set_up: set_up(),
+        calls: calls.collect(),
+        expected: |_, _| true,
+    }
+}
+
+pub fn rows() -> Vec<Row> {
+    let pending = |random: &mut Random| some_mask(random, [Mask::Setip, Mask::InClrip]);
+    let enable = |random: &mut Random| some_mask(random, [Mask::Setie, Mask::Clrie]);
+    let sourcecfg_read = |random: &mut Random| source_read(random, Register::Sourcecfg);
+    let target_read = |random: &mut Random| source_read(random, Register::Target);
+    vec![
+        mix(),
+        row("wire change", Kind::Wire, wire_change),
+        refused(),
+        row("mask write, setip and in_clrip", Kind::Write, pending),
+        row("mask write, setie and clrie", Kind::Write, enable),
+        row(
+            "write by number, all five registers",
+            Kind::Write,
+            by_number,
+        ),
+        row("sourcecfg write", Kind::Write, sourcecfg),
+        row("target write", Kind::Write, target),
+        row("write where no register is", Kind::Write, no_register),
+        row("mask read", Kind::Read, mask_read),
+        row("sourcecfg read", Kind::Read, sourcecfg_read),
+        row("target read", Kind::Read, target_read),
+        forwards(),
+        no_forwards(),
+    ]
+}
