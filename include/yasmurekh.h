@@ -244,7 +244,7 @@ uint64_t yasmurekh_report(uint64_t start, const uint8_t *window,
  * Gives the wire of a source a level: 0 is low, any other number high.
  *
  * Lent: `state`. Changed: what it keeps of that source. Never changed: the other
- * sources, and all of it where the call is refused.
+ * sources, and any word where the call is refused.
  *
  * Returns YASMUREKH_OK; YASMUREKH_SHORT_BUFFER, with nothing changed, where
  * `state_len` is below YASMUREKH_APLIC_WORDS; or else YASMUREKH_REFUSAL_SOURCE,
@@ -258,8 +258,8 @@ uint64_t yasmurekh_aplic_wire(uint64_t *state, size_t state_len,
  * the domain (misaligned, undefined, genmsi, setipnum_be, of sources above 63,
  * beyond the region) is ignored.
  *
- * Lent: `state`. Changed: what the register stands for. Never changed: anything
- * else of it, and all of it where no register is.
+ * Lent: `state`. Changed: what the register stands for. Never changed: what the
+ * other registers and the wires stand for, and any word where no register is.
  *
  * Returns YASMUREKH_OK; or YASMUREKH_SHORT_BUFFER as yasmurekh_aplic_wire does.
  */
@@ -286,8 +286,8 @@ uint64_t yasmurekh_aplic_read(uint64_t *state, size_t state_len,
  * the interrupt file that hart index and guest index name.
  *
  * Lent: `state` and `out`. Changed: the first four words of `out`, and that one
- * pending bit. Never changed: the words of `out` after the fourth, anything else
- * of `state`, and all of it where nothing is forwarded.
+ * pending bit. Never changed: the words of `out` after the fourth, what else
+ * `state` stands for, and any word of it where nothing is forwarded.
  *
  * Returns YASMUREKH_OK; or YASMUREKH_SHORT_BUFFER, with nothing changed, where
  * `state_len` is below YASMUREKH_APLIC_WORDS or `out_len` below

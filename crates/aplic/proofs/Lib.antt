@@ -1,4 +1,4 @@
 pub mod Tables
 pub mod Domains
 pub mod Runs
-pub mod Sound
+pub mod Always

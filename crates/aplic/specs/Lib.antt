@@ -1,4 +1,4 @@
 pub mod Calls
 pub mod Run
 pub mod Domain
-pub mod Sound
+pub mod Always

@@ -282,6 +282,35 @@ write-domain (w ∷ ws) o v g l p q =
 pub beyond-domain : (ws : List ℕ) (v : ℕ) → drop 71 (set ws 0 v) ≡ drop 71 ws
 beyond-domain ws v = drop-set 71 0 v ws (omega arith)
 
+-- a register isn't none
+abbrev Other : Register → Type 0
+Other DomainCfg = Unit {0}
+Other (SourceCfg n) = Unit {0}
+Other (OfBits b) = Unit {0}
+Other (Target n) = Unit {0}
+Other Nothing = ⊥
+
+none-of : (g : Register) (xs ys : List ℕ) → Other g → g ≡ Nothing → xs ≡ ys
+none-of g xs ys h e = absurd (subst Other e h)
+
+module _ (o : ℕ) (g : Register) (p : g ≡ registerOf o) (xs ys : List ℕ) where
+  other-by : (h : Register) → Other h → g ≡ h → registerOf o ≡ Nothing → xs ≡ ys
+  other-by h w q e = none-of h xs ys w (sym q ∙ p ∙ e)
+
+  pub changed-domain : g ≡ DomainCfg → registerOf o ≡ Nothing → xs ≡ ys
+  changed-domain q = other-by DomainCfg tt q
+
+  pub changed-source : (n : ℕ) → g ≡ SourceCfg n → registerOf o ≡ Nothing → xs ≡ ys
+  changed-source n q = other-by (SourceCfg n) tt q
+
+  pub changed-bits : (b : BitRegister) → g ≡ OfBits b → registerOf o ≡ Nothing → xs ≡ ys
+  changed-bits b q = other-by (OfBits b) tt q
+
+  pub changed-target : (n : ℕ) → g ≡ Target n → registerOf o ≡ Nothing → xs ≡ ys
+  changed-target n q = other-by (Target n) tt q
+
+pub ruleset changed = (changed-domain, changed-source, changed-bits, changed-target)
+
 pub ruleset beyond = (beyond-put, beyond-target, beyond-both, beyond-domain)
 
 pub ruleset ones = (configure-goes, aim-goes)

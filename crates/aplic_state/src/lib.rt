@@ -3,6 +3,8 @@ ghost use mathlib.Core.Path.{_≡_};
 ghost use Prim.Native.Nat.{ℕ, _<_, _≤_, _+_};
 ghost use lib.ListN.{length as lengthOf, drop, set};
 ghost use Rattle.word.specs.Word.{only};
+ghost use Rattle.register.specs.Register.{registerOf};
+ghost use Rattle.register.specs.declared.Register.the-variants.{Nothing};
 ghost use Rattle.source.specs.Source.{configured, aimed};
 ghost use Rattle.source.specs.Table.{act};
 ghost use Rattle.source.specs.declared.Delivery.the-variants.{Message};
@@ -96,6 +98,7 @@ pub fn write(state: &mut [u64], offset: u64, v: u32)
     requires { ⌜ 71 ≤ lengthOf (now state) ⌝ }
     ensures table { λ _. ⌜ tableIn (now (state .exit)) ≡ writeTable offset v (tableIn (now (state .entry))) ⌝ }
     ensures beyond { λ _. ⌜ drop 71 (now (state .exit)) ≡ drop 71 (now (state .entry)) ⌝ }
+    ensures ignored { λ _. ⌜ (registerOf offset ≡ Nothing → now (state .exit) ≡ now (state .entry)) ⌝ }
 {
     let g = register::register_at(offset);
     match g {

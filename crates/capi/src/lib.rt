@@ -14,6 +14,8 @@ ghost use Rattle.capi.specs.Face.{stageOf, withAnswer, withPairs, withRe
 ghost use Rattle.capi.specs.Words.{spanOf, wordIn, pairIn, onesIn};
 ghost use Rattle.iommu.specs.Bounds.{Reportable};
 ghost use Rattle.iommu.specs.Files.{takeOf, afterTakeOf, reportOf};
+ghost use Rattle.register.specs.Register.{registerOf};
+ghost use Rattle.register.specs.declared.Register.the-variants.{Nothing};
 ghost use Rattle.aplic.specs.Calls.{wireTable, wireRefusal, writeTable, readTable, forwardTable, sentOf};
 ghost use Rattle.aplic.specs.declared.Sent.the-variants.{Idle};
 ghost use Rattle.aplic_state.specs.State.{tableIn};
@@ -276,6 +278,7 @@ pub extern "C" fn yasmurekh_aplic_write(state: &mut [u64], offset: u64, value: u
     ensures table { λ r. ⌜ tableIn (now (state .exit)) ≡ underStatus r (tableIn (now (state .entry))) (writeTable offset value (tableIn (now (state .entry)))) ⌝ }
     ensures beyond { λ _. ⌜ drop 71 (now (state .exit)) ≡ drop 71 (now (state .entry)) ⌝ }
     ensures refused { λ r. ⌜ ((r ≡ 0 → ⊥) → now (state .exit) ≡ now (state .entry)) ⌝ }
+    ensures ignored { λ _. ⌜ (registerOf offset ≡ Nothing → now (state .exit) ≡ now (state .entry)) ⌝ }
 {
     if state.len() < 71 {
         return 1;

@@ -1,5 +1,5 @@
 use Rattle.register.proofs.Known.{knowing}
-use Rattle.aplic_state.proofs.States.{writes, beyond}
+use Rattle.aplic_state.proofs.States.{writes, beyond, changed}
 use borrow.Author.Needs.{needs}
 use Rattle.aplic_state.proofs.write.Statement.{statement}
 use Rattle.aplic_state.proofs.write.Tie as tie
@@ -34,7 +34,7 @@ enum-known-g c = search needs
 
 -- src/lib.rt:106:13
 configure-requires : tie.Need-configure-requires
-configure-requires c κs = search (writes, beyond, knowing, needs)
+configure-requires c κs = search (writes, beyond, changed, knowing, needs)
 
 -- src/lib.rt:108:26
 enum-known-g-2 : tie.Need-enum-known-g-2
@@ -58,7 +58,7 @@ enum-known-g-3 c = search needs
 
 -- src/lib.rt:113:13
 aim-requires : tie.Need-aim-requires
-aim-requires c κs = search (writes, beyond, knowing, needs)
+aim-requires c κs = search (writes, beyond, changed, knowing, needs)
 
 enum-told-2 : tie.Need-enum-told-2
 enum-told-2 c = search needs
@@ -69,7 +69,7 @@ same-length c = search needs
 
 -- src/lib.rt:95:1
 returns : tie.Need-returns
-returns c = search (writes, beyond, knowing, needs)
+returns c = search (writes, beyond, changed, knowing, needs)
 
 -- src/lib.rt:95:1
 same-length-2 : tie.Need-same-length-2
@@ -77,7 +77,7 @@ same-length-2 c = search needs
 
 -- src/lib.rt:95:1
 returns-2 : tie.Need-returns-2
-returns-2 c = search (writes, beyond, knowing, needs)
+returns-2 c = search (writes, beyond, changed, knowing, needs)
 
 -- src/lib.rt:95:1
 same-length-3 : tie.Need-same-length-3
@@ -85,7 +85,7 @@ same-length-3 c = search needs
 
 -- src/lib.rt:95:1
 returns-3 : tie.Need-returns-3
-returns-3 c = search (writes, beyond, knowing, needs)
+returns-3 c = search (writes, beyond, changed, knowing, needs)
 
 -- src/lib.rt:95:1
 same-length-4 : tie.Need-same-length-4
@@ -93,11 +93,11 @@ same-length-4 c = search needs
 
 -- src/lib.rt:95:1
 returns-4 : tie.Need-returns-4
-returns-4 c = search (writes, beyond, knowing, needs)
+returns-4 c = search (writes, beyond, changed, knowing, needs)
 
 -- src/lib.rt:95:1
 returns-5 : tie.Need-returns-5
-returns-5 c = search (writes, beyond, knowing, needs)
+returns-5 c = search (writes, beyond, changed, knowing, needs)
 
 pub write-spec : {M : Type 1} → statement M
 write-spec =

@@ -9,7 +9,7 @@ use Rattle.aplic_state.proofs.write.Reads as write-reads
 
 -- src/lib.rt:281:9
 returns : tie.Need-returns
-returns c = (search (state-short, needs), (left-short _ _, (refl, (λ h. refl))))
+returns c = (search (state-short, needs), (left-short _ _, (refl, ((λ h. refl), (λ h. refl)))))
 
 -- src/lib.rt:283:5
 write-requires : tie.Need-write-requires
@@ -21,7 +21,7 @@ same-length c = search needs
 
 -- src/lib.rt:273:1
 returns-2 : tie.Need-returns-2
-returns-2 c = (search (state-long, needs), (search (left-done, needs), (search needs, (λ h. refused-none _ _ h))))
+returns-2 c = (search (state-long, needs), (search (left-done, needs), (search needs, ((λ h. refused-none _ _ h), search needs))))
 
 pub yasmurekh-aplic-write-spec : {M : Type 1} → statement M
 yasmurekh-aplic-write-spec = tie.close (tie.spec returns write-requires same-length returns-2)

@@ -19,7 +19,7 @@ use Rattle.source.specs.Source.{modeOf, activeOf, rectified, Event, input, seti
 use Rattle.source.specs.Table.{Table, startOf, act}
 use Rattle.aplic.specs.Calls.{wireTable, concerned, change, enabledBy, writeRegister, writeTable, forwardTable, sends, topOf}
 use Rattle.aplic.specs.Run.{Call, wire, write, read, forward, after, afterAll}
-use Rattle.aplic.specs.Sound.{LevelSound, SoundAs, Sound}
+use Rattle.aplic.specs.Always.{LevelSound, SoundAs, Sound}
 
 abbrev Fine : Delivery → Source → Type 0
 Fine d s = SoundAs d (s .mode) s
