@@ -1,4 +1,4 @@
--- The face for C: numbers for what the routines take and answer (D25). Nothing of a request's meaning stands here.
+-- The face for C: numbers for what the routines take and answer (D26). Nothing of a request's meaning stands here.
 use Prim.Native.Nat.{ℕ, zero, suc, _+_, _*_, _%_}
 use mathlib.Core.Bool.{Bool}
 use mathlib.Core.List.{List}
