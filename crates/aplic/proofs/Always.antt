@@ -67,32 +67,27 @@ module _ (d : Delivery) where
   sensed-at now Level1 w p e t h = level-sensed d w now p
   sensed-at now Level0 w p e t h = level-sensed d (not w) (not now) p
 
-  raised-at : (m : Mode) (w p e : Bool) (t : ℕ) → Fine d (mk m w p e t) → Fine d (raised d (mk m w p e t))
+  -- an event e that keeps a level-sensitive source sound keeps every source so
+  befalls-at : (e : Bool → Event) → ((i p : Bool) → LevelSound d i p → LevelSound d i (pendingAfter d Level1 (e i) p)) → (m : Mode) (w p en : Bool) (t : ℕ) → Fine d (mk m w p en t)
+      → Fine d (befalls d (e (rectified m w)) (mk m w p en t))
+  befalls-at e keep Inactive w p en t h = h
+  befalls-at e keep Detached w p en t h = tt
+  befalls-at e keep Edge1 w p en t h = tt
+  befalls-at e keep Edge0 w p en t h = tt
+  befalls-at e keep Level1 w p en t h = keep w p h
+  befalls-at e keep Level0 w p en t h = keep (not w) p h
+
+  raised-at : (s : Source) → Fine d s → Fine d (raised d s)
   unfolding raised
-  raised-at Inactive w p e t h = h
-  raised-at Detached w p e t h = tt
-  raised-at Edge1 w p e t h = tt
-  raised-at Edge0 w p e t h = tt
-  raised-at Level1 w p e t h = level-raised d w p h
-  raised-at Level0 w p e t h = level-raised d (not w) p h
+  raised-at s h = befalls-at setip (level-raised d) (s .mode) (s .wire) (s .pending) (s .enable) (s .target) h
 
-  lowered-at : (m : Mode) (w p e : Bool) (t : ℕ) → Fine d (mk m w p e t) → Fine d (lowered d (mk m w p e t))
+  lowered-at : (s : Source) → Fine d s → Fine d (lowered d s)
   unfolding lowered
-  lowered-at Inactive w p e t h = h
-  lowered-at Detached w p e t h = tt
-  lowered-at Edge1 w p e t h = tt
-  lowered-at Edge0 w p e t h = tt
-  lowered-at Level1 w p e t h = level-lowered d w p h
-  lowered-at Level0 w p e t h = level-lowered d (not w) p h
+  lowered-at s h = befalls-at (λ i. clrip) (level-lowered d) (s .mode) (s .wire) (s .pending) (s .enable) (s .target) h
 
-  handed-at : (m : Mode) (w p e : Bool) (t : ℕ) → Fine d (mk m w p e t) → Fine d (handed d (mk m w p e t))
+  handed-at : (s : Source) → Fine d s → Fine d (handed d s)
   unfolding handed
-  handed-at Inactive w p e t h = h
-  handed-at Detached w p e t h = tt
-  handed-at Edge1 w p e t h = tt
-  handed-at Edge0 w p e t h = tt
-  handed-at Level1 w p e t h = level-handed d w p h
-  handed-at Level0 w p e t h = level-handed d (not w) p h
+  handed-at s h = befalls-at (λ i. delivered) (level-handed d) (s .mode) (s .wire) (s .pending) (s .enable) (s .target) h
 
   allowed-at : (on : Bool) (m : Mode) (w p e : Bool) (t : ℕ) → Fine d (mk m w p e t) → Fine d (allowed on (mk m w p e t))
   unfolding allowed
@@ -131,10 +126,10 @@ Keeps d f = (s : Source) → Fine d s → Fine d (f s)
 
 keeps-change : (d : Delivery) (b : BitRegister) → Keeps d (change d b)
 unfolding change
-keeps-change d (SetIp high) s h = raised-at d (s .mode) (s .wire) (s .pending) (s .enable) (s .target) h
-keeps-change d SetIpNum s h = raised-at d (s .mode) (s .wire) (s .pending) (s .enable) (s .target) h
-keeps-change d (InClrIp high) s h = lowered-at d (s .mode) (s .wire) (s .pending) (s .enable) (s .target) h
-keeps-change d ClrIpNum s h = lowered-at d (s .mode) (s .wire) (s .pending) (s .enable) (s .target) h
+keeps-change d (SetIp high) s h = raised-at d s h
+keeps-change d SetIpNum s h = raised-at d s h
+keeps-change d (InClrIp high) s h = lowered-at d s h
+keeps-change d ClrIpNum s h = lowered-at d s h
 keeps-change d (SetIe high) s h = allowed-at d true (s .mode) (s .wire) (s .pending) (s .enable) (s .target) h
 keeps-change d SetIeNum s h = allowed-at d true (s .mode) (s .wire) (s .pending) (s .enable) (s .target) h
 keeps-change d (ClrIe high) s h = allowed-at d false (s .mode) (s .wire) (s .pending) (s .enable) (s .target) h
@@ -163,7 +158,7 @@ kept t (read o) h = h
 kept t forward h = go (sends t)
   where
     go : (b : Bool) → Sound (pick b (act (only (topOf t)) (handed (t .delivery)) t) t)
-    go true = acts (only (topOf t)) (handed (t .delivery)) t (λ s k. handed-at (t .delivery) (s .mode) (s .wire) (s .pending) (s .enable) (s .target) k) h
+    go true = acts (only (topOf t)) (handed (t .delivery)) t (λ s k. handed-at (t .delivery) s k) h
     go false = h
 
 pub sound-kept : (t : Table) (cs : List Call) → Sound t → Sound (afterAll t cs)

@@ -1,5 +1,5 @@
 -- One interrupt source of a domain, after document 002, sections 4.1.5.2, 4.1.5.16 and 4.1.7; over both delivery modes.
-use Prim.Native.Nat.{ℕ, _+_, _*_, _^_}
+use Prim.Native.Nat.{ℕ, _+_, _*_, _/_, _%_, _^_}
 use mathlib.Core.Bool.{Bool, true, false, not, _&&_, _||_}
 use lib.Dec.{eqb}
 use Rattle.memory.specs.Bits.{bit, bits}
@@ -219,28 +219,13 @@ aimed d v s =
 
 -- ---- how the code keeps a mode: the three bits of its number
 abbrev pub wiredOf : Mode → Bool
-wiredOf Inactive = false
-wiredOf Detached = false
-wiredOf Edge1 = true
-wiredOf Edge0 = true
-wiredOf Level1 = true
-wiredOf Level0 = true
+wiredOf m = eqb (numberOf m / 4 % 2) 1
 
 abbrev pub levelOf : Mode → Bool
-levelOf Inactive = false
-levelOf Detached = false
-levelOf Edge1 = false
-levelOf Edge0 = false
-levelOf Level1 = true
-levelOf Level0 = true
+levelOf m = eqb (numberOf m / 2 % 2) 1
 
 abbrev pub lowOf : Mode → Bool
-lowOf Inactive = false
-lowOf Detached = true
-lowOf Edge1 = false
-lowOf Edge0 = true
-lowOf Level1 = false
-lowOf Level0 = true
+lowOf m = eqb (numberOf m % 2) 1
 
 abbrev pub modeFrom : Bool → Bool → Bool → Mode
 modeFrom true true low = pick low Level0 Level1

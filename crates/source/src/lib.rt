@@ -49,45 +49,6 @@ pub fn mode_from(wired: bool, level: bool, low: bool) -> Mode
     Mode::Inactive
 }
 
-pub fn is_wired(m: Mode) -> bool
-    ensures { λ r. ⌜ r ≡ wiredOf m ⌝ }
-{
-    match m {
-        Mode::Inactive => false,
-        Mode::Detached => false,
-        Mode::Edge1 => true,
-        Mode::Edge0 => true,
-        Mode::Level1 => true,
-        Mode::Level0 => true,
-    }
-}
-
-pub fn is_level(m: Mode) -> bool
-    ensures { λ r. ⌜ r ≡ levelOf m ⌝ }
-{
-    match m {
-        Mode::Inactive => false,
-        Mode::Detached => false,
-        Mode::Edge1 => false,
-        Mode::Edge0 => false,
-        Mode::Level1 => true,
-        Mode::Level0 => true,
-    }
-}
-
-pub fn is_low(m: Mode) -> bool
-    ensures { λ r. ⌜ r ≡ lowOf m ⌝ }
-{
-    match m {
-        Mode::Inactive => false,
-        Mode::Detached => true,
-        Mode::Edge1 => false,
-        Mode::Edge0 => true,
-        Mode::Level1 => false,
-        Mode::Level0 => true,
-    }
-}
-
 pub fn number(m: Mode) -> u32
     ensures { λ r. ⌜ r ≡ numberOf m ⌝ }
 {
@@ -99,6 +60,25 @@ pub fn number(m: Mode) -> u32
         Mode::Level1 => 6,
         Mode::Level0 => 7,
     }
+}
+
+// The three bits of a mode's number.
+pub fn is_wired(m: Mode) -> bool
+    ensures { λ r. ⌜ r ≡ wiredOf m ⌝ }
+{
+    number(m) / 4 % 2 == 1
+}
+
+pub fn is_level(m: Mode) -> bool
+    ensures { λ r. ⌜ r ≡ levelOf m ⌝ }
+{
+    number(m) / 2 % 2 == 1
+}
+
+pub fn is_low(m: Mode) -> bool
+    ensures { λ r. ⌜ r ≡ lowOf m ⌝ }
+{
+    number(m) % 2 == 1
 }
 
 // 2 and 3 are reserved.
