@@ -116,41 +116,20 @@ pub fn mode_of(v: u32) -> Mode
 pub fn is_active(m: Mode) -> bool
     ensures { λ r. ⌜ r ≡ activeOf m ⌝ }
 {
-    match m {
-        Mode::Inactive => false,
-        Mode::Detached => true,
-        Mode::Edge1 => true,
-        Mode::Edge0 => true,
-        Mode::Level1 => true,
-        Mode::Level0 => true,
-    }
+    number(m) != 0
 }
 
 pub fn rectify(m: Mode, wire: bool) -> bool
     ensures { λ r. ⌜ r ≡ rectified m wire ⌝ }
 {
-    match m {
-        Mode::Inactive => false,
-        Mode::Detached => false,
-        Mode::Edge1 => wire,
-        Mode::Edge0 => !wire,
-        Mode::Level1 => wire,
-        Mode::Level0 => !wire,
-    }
+    is_wired(m) & (wire ^ is_low(m))
 }
 
-// The pending bit after a write of sourcecfg, with the rectified input under the new mode.
-fn configure_pending(m: Mode, input: bool, pending: bool) -> bool
-    ensures { λ r. ⌜ r ≡ configuredPending m input pending ⌝ }
+// The pending bit after a write of sourcecfg, with the rectified input under the new mode. By flags, not by a match: modes come in any order.
+fn configure_pending(m: Mode, wire: bool, pending: bool) -> bool
+    ensures { λ r. ⌜ r ≡ configuredPending m (rectified m wire) pending ⌝ }
 {
-    match m {
-        Mode::Inactive => false,
-        Mode::Detached => pending,
-        Mode::Edge1 => input | pending,
-        Mode::Edge0 => input | pending,
-        Mode::Level1 => input,
-        Mode::Level0 => input,
-    }
+    is_active(m) & (rectify(m, wire) | pending & !is_level(m))
 }
 
 // A source that is made active starts with target 0, and an inactive one has none.
@@ -192,7 +171,7 @@ impl Source {
         Source {
             mode: m,
             wire: self.wire,
-            pending: configure_pending(m, rectify(m, self.wire), self.pending),
+            pending: configure_pending(m, self.wire, self.pending),
             enable: is_active(m) & self.enable,
             target: configure_target(old, m, self.target),
         }
