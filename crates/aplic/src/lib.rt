@@ -12,7 +12,6 @@ ghost use Rattle.aplic.specs.Calls.{wireTable, wireRefusal, concerned, c
 ghost use Rattle.aplic.specs.Domain.{tableOf, Shows};
 use register::BitRegister;
 use register::Register;
-use source::Source;
 use sources::Sources;
 
 pub struct Domain {

@@ -1,4 +1,4 @@
-// The domain in words that the caller lends, changed in place: only the words of a call's sources are read and written.
+// The domain in words that the caller lends, changed in place and never copied. For `capi`, which looks at their number first; the domain by value asks for nothing.
 ghost use mathlib.Core.Path.{_≡_};
 ghost use Prim.Native.Nat.{ℕ, _<_, _≤_, _+_};
 ghost use lib.ListN.{length as lengthOf, drop, set};
@@ -13,7 +13,6 @@ ghost use Rattle.aplic.specs.declared.Sent.the-variants.{Idle};
 ghost use Rattle.aplic_state.specs.State.{enableIn, sourcesIn, targetIn, tableIn, withSources};
 use aplic::Sent;
 use register::Register;
-use source::Source;
 use sources::Sources;
 
 fn sources_in(state: &[u64]) -> Sources
