@@ -175,6 +175,45 @@ lowest-from (suc n) k f = go (f k) (lowest-from n (suc k) f)
     go true h = omega arith
     go false h = omega arith
 
+-- below k + n it is one that f has, and none before it is
+pub lowest-found : (n k : ℕ) (f : ℕ → Bool) → lowest n k f < k + n → f (lowest n k f) ≡ true
+unfolding lowest
+lowest-found zero k f h = absurd (omega arith)
+lowest-found (suc n) k f h = go (f k) refl (lowest-found n (suc k) f) h
+  where
+    go : (b : Bool) → f k ≡ b → (lowest n (suc k) f < suc k + n → f (lowest n (suc k) f) ≡ true) → pick b k (lowest n (suc k) f) < k + suc n → f (pick b k (lowest n (suc k) f)) ≡ true
+    go true e ih l = e
+    go false e ih l = ih (omega arith)
+
+pub lowest-before : (n k : ℕ) (f : ℕ → Bool) (j : ℕ) → k ≤ j → j < lowest n k f → f j ≡ false
+unfolding lowest
+lowest-before zero k f j a h = absurd (omega arith)
+lowest-before (suc n) k f j a h = go (f k) refl (lowest-before n (suc k) f j) h
+  where
+    go : (b : Bool) → f k ≡ b → (suc k ≤ j → j < lowest n (suc k) f → f j ≡ false) → j < pick b k (lowest n (suc k) f) → f j ≡ false
+    go true e ih l = absurd (omega arith)
+    go false e ih l = at (decLt k j)
+      where
+        at : Dec (k < j) → f j ≡ false
+        at (yes p) = ih (omega arith) l
+        at (no p) = let q : j ≡ k = omega arith in ap f q ∙ e
+
+pub lowest-is : (n k r : ℕ) (f : ℕ → Bool) → k ≤ r → r < k + n → f r ≡ true → ((j : ℕ) → k ≤ j → j < r → f j ≡ false) → lowest n k f ≡ r
+unfolding lowest
+lowest-is zero k r f a b e h = absurd (omega arith)
+lowest-is (suc n) k r f a b e h = at (decLt k r) (λ p. lowest-is n (suc k) r f (omega arith) (omega arith) e (λ j c d. h j (omega arith) d))
+  where
+    at : Dec (k < r) → (k < r → lowest n (suc k) f ≡ r) → pick (f k) k (lowest n (suc k) f) ≡ r
+    at (yes p) ih = ap (λ (x : Bool). pick x k (lowest n (suc k) f)) (h k (omega arith) p) ∙ ih p
+    at (no p) ih = let q : r ≡ k = omega arith in ap (λ (x : Bool). pick x k (lowest n (suc k) f)) (ap f (sym q) ∙ e) ∙ sym q
+
+pub lowest-none : (n k : ℕ) (f : ℕ → Bool) → ((j : ℕ) → k ≤ j → j < k + n → f j ≡ false) → lowest n k f ≡ k + n
+unfolding lowest
+lowest-none zero k f h = sym (add-zero k)
+lowest-none (suc n) k f h =
+    let e : suc k + n ≡ k + suc n = omega arith in
+    ap (λ (x : Bool). pick x k (lowest n (suc k) f)) (h k (omega arith) (omega arith)) ∙ lowest-none n (suc k) f (λ j a b. h j (omega arith) (omega arith)) ∙ e
+
 pub trailing-lowest : (n k x : ℕ) → k + trailingZeros n (x / 2 ^ k) ≡ lowest n k (λ i. bit i x)
 unfolding lowest trailingZeros marks
 trailing-lowest zero k x = add-zero k
@@ -215,6 +254,28 @@ put-lowered false false = refl
 pub bit-put : (i x n : ℕ) (on : Bool) → n < 64 → bit i (putOf x n on) ≡ pick (eqb i n) on (bit i x)
 bit-put i x n true l = bit-or i x (1 * 2 ^ n % 2 ^ 64) ∙ rw (bit-one i n l) (put-raised (bit i x) (eqb i n))
 bit-put i x n false l = bit-without i x (1 * 2 ^ n % 2 ^ 64) ∙ rw (bit-one i n l) (put-lowered (bit i x) (eqb i n))
+
+No : Bool → Type 0
+No true = ⊥
+No false = Unit {0}
+
+pub never : false ≡ true → ⊥
+unfolding No
+never e = subst No e tt
+
+-- a number taken out leaves less
+pub put-less : (x n : ℕ) → n < 64 → marks x n ≡ true → putOf x n false < x
+put-less x n l e = less (bitAnd x (1 * 2 ^ n % 2 ^ 64)) (and-le-l x (1 * 2 ^ n % 2 ^ 64)) there
+  where
+    both : (a b : Bool) → a ≡ true → b ≡ true → a && b ≡ true
+    both a b p q = rw (p, q)
+
+    there : bit n (bitAnd x (1 * 2 ^ n % 2 ^ 64)) ≡ true
+    there = bit-and n x (1 * 2 ^ n % 2 ^ 64) ∙ both _ _ e (bit-one n n l ∙ eq-eqb n n refl)
+
+    less : (y : ℕ) → y ≤ x → bit n y ≡ true → x - y < x
+    less zero h q = absurd (never (sym (zero-digit n) ∙ q))
+    less (suc y) h q = omega arith
 
 -- ---- the halves
 upper : (x : ℕ) → x < 2 ^ 64 → x / 2 ^ 32 ≡ x / 2 ^ 32 % 2 ^ 32
@@ -297,6 +358,21 @@ mask-up high v i e h l = mask-high v i h (within i l .1) ∙ ap (λ (b : Bool). 
 pub mask-down : (high : Bool) (v i : ℕ) → high ≡ false → v < 2 ^ 32 → inside i ≡ true → marks v i ≡ chosen high v i
 mask-down high v i e h l = mask-low v i h (within i l .1) ∙ ap (λ (b : Bool). chosen b v i) (sym e)
 
+-- every number
+full-half : (n : ℕ) → (2 ^ suc n - 1) / 2 ≡ 2 ^ n - 1
+full-half n = rw pow-suc (omega (arith, pow-pos n))
+
+full : (n i : ℕ) → i < n → bit i (2 ^ n - 1) ≡ true
+full zero i l = absurd (omega arith)
+full (suc n) zero l = let e : (2 ^ suc n - 1) % 2 ≡ 1 = rw pow-suc (omega (arith, pow-pos n)) in rw (bit-zero, e)
+full (suc n) (suc i) l = rw (bit-suc i (2 ^ suc n - 1), full-half n) (full n i (omega arith))
+
+pub every-on : (on : Bool) (i : ℕ) → on ≡ true → inside i ≡ true → marks 0xffff_ffff_ffff_ffff i ≡ on
+every-on on i e h = full 64 i (within i h .1) ∙ sym e
+
+pub every-off : (on : Bool) (i : ℕ) → on ≡ false → inside i ≡ true → marks 0 i ≡ on
+every-off on i e h = zero-digit i ∙ sym e
+
 pub has-is : (x n : ℕ) → eqb (x / 2 ^ n % 2) 1 ≡ marks x n
 unfolding marks
 has-is x n = refl
@@ -305,4 +381,4 @@ pub bit-set : (i x m : ℕ) (on : Bool) → bit i (setOf x m on) ≡ pick on (bi
 bit-set i x m true = bit-or i x m
 bit-set i x m false = bit-without i x m
 
-pub ruleset words = (and-le-l, yes-is, no-is, has-is, half-up, half-down, mask-up, mask-down, one-bit, no-bit, first-is, first-fits)
+pub ruleset words = (and-le-l, yes-is, no-is, has-is, half-up, half-down, mask-up, mask-down, one-bit, no-bit, every-on, every-off, first-is, first-fits)

@@ -75,3 +75,13 @@ pub fn first_of(x: u64) -> u64
 {
     u64::trailing_zeros(x / 2 * 2) as u64
 }
+
+// Every number, or none.
+pub fn every(on: bool) -> u64
+    ensures { λ r. ⌜ ((i : ℕ) → inside i ≡ true → marks r i ≡ on) ⌝ }
+{
+    if on {
+        return 0xffff_ffff_ffff_ffff;
+    }
+    0
+}
