@@ -2,18 +2,43 @@
 use mathlib.Core.Bool.{Bool, true, false, not, _&&_, _||_, Bool·beq}
 use mathlib.Core.Path.{_≡_, refl, ap, sym, _∙_}
 use lib.Dec.{eqb}
-use Prim.Native.Nat.{ℕ, _/_, _%_}
+use Prim.Native.Nat.{ℕ, _+_, _*_, _/_, _%_}
+use borrow.Author.Tests.{eq-eqb, ne-eqb}
 use native.Mathlib.Nat.{div-one}
 use Rattle.memory.specs.Bits.{bit, bits}
 use Rattle.memory.specs.Choice.{pick}
 use Rattle.memory.proofs.Choices.{no-is}
+use Rattle.source.specs.declared.Delivery.{Delivery}
+use Rattle.source.specs.declared.Delivery.the-variants.{Direct, Message}
 use Rattle.source.specs.declared.Mode.{Mode}
 use Rattle.source.specs.declared.Mode.the-variants.{Inactive, Detached, Edge1, Edge0, Level1, Level0}
-use Rattle.source.specs.Source.{byNumber, modeOf, numberOf, activeOf, wiredOf, levelOf, lowOf, rectified, configuredPending}
+use Rattle.source.specs.Source.{byNumber, modeOf, numberOf, activeOf, wiredOf, levelOf, lowOf, rectified, configuredPending, directOf, targetOf}
 
 -- SM is bits 2:0
 pub mode-field : (v : ℕ) (m : Mode) → bit v 10 ≡ false → m ≡ byNumber (v % 8) → m ≡ modeOf v
 mode-field v m e p = no-is _ _ _ _ e (p ∙ ap (λ (n : ℕ). byNumber (n % 8)) (sym (div-one v)))
+
+-- ---- targets, by the tests that the code makes
+module _ (d : Delivery) (v : ℕ) (b : Bool) (hb : b ≡ directOf d) where
+  by-mode : (e : Delivery) → directOf e ≡ b → d ≡ e
+  by-mode e p = go d e (sym hb ∙ sym p)
+    where
+      go : (x y : Delivery) → directOf x ≡ directOf y → x ≡ y
+      go Direct Direct q = refl
+      go Direct Message q = cc
+      go Message Direct q = cc
+      go Message Message q = refl
+
+  pub target-one : b ≡ true → v % 256 ≡ 0 → v / 0x4_0000 % 0x4000 * 0x4_0000 + 1 ≡ targetOf d v
+  target-one p e = rw (by-mode Direct (sym p), div-one, eq-eqb _ _ e)
+
+  pub target-priority : b ≡ true → (v % 256 ≡ 0 → ⊥) → v / 0x4_0000 % 0x4000 * 0x4_0000 + v % 256 ≡ targetOf d v
+  target-priority p e = rw (by-mode Direct (sym p), div-one, ne-eqb _ _ e)
+
+  pub target-message : b ≡ false → v / 0x1000 % 0x10_0000 * 0x1000 + v % 2048 ≡ targetOf d v
+  target-message p = rw (by-mode Message (sym p), div-one)
+
+pub ruleset targets = (target-one, target-priority, target-message)
 
 active-number : (m : Mode) → not (eqb (numberOf m) 0) ≡ activeOf m
 active-number Inactive = refl

@@ -217,6 +217,11 @@ aimed d v s =
       target = aimedTarget d (s .mode) v (s .target);
     }
 
+-- ---- how the code asks for the delivery mode
+abbrev pub directOf : Delivery → Bool
+directOf Direct = true
+directOf Message = false
+
 -- ---- how the code keeps a mode: the three bits of its number
 abbrev pub wiredOf : Mode → Bool
 wiredOf m = eqb (numberOf m / 4 % 2) 1

@@ -1,10 +1,9 @@
 // One interrupt source of an APLIC domain: its mode, its wire, its pending and enable bits, its target.
 ghost use mathlib.Core.Path.{_≡_};
 ghost use Rattle.source.specs.Source.{modeFrom, wiredOf, levelOf, lowOf, byNumber, modeOf, numberOf, rectified, activeOf, configuredPending, configured, aimed};
-ghost use Rattle.source.specs.Source.{configuredTarget, targetOf, aimedTarget};
-ghost use Rattle.source.specs.declared.Delivery.the-variants.{Message};
+ghost use Rattle.source.specs.Source.{directOf, firstTarget, configuredTarget, targetOf, aimedTarget};
 
-// How a domain delivers interrupts. This domain's code is for Message; the rules of a source are stated over both.
+// How a domain delivers interrupts.
 pub enum Delivery {
     Direct,
     Message,
@@ -25,6 +24,15 @@ pub struct Source {
     pub pending: bool,
     pub enable: bool,
     pub target: u32,
+}
+
+pub fn is_direct(d: Delivery) -> bool
+    ensures { λ r. ⌜ r ≡ directOf d ⌝ }
+{
+    match d {
+        Delivery::Direct => true,
+        Delivery::Message => false,
+    }
 }
 
 // From the three bits of a mode's number: attached to the wire, level-sensitive, the lowest bit.
@@ -132,39 +140,56 @@ fn configure_pending(m: Mode, wire: bool, pending: bool) -> bool
     is_active(m) & (rectify(m, wire) | pending & !is_level(m))
 }
 
-// A source that is made active starts with target 0, and an inactive one has none.
-fn configure_target(old: Mode, new: Mode, target: u32) -> u32
-    ensures { λ r. ⌜ r ≡ configuredTarget Message old new target ⌝ }
+// The target of a source that is made active.
+fn first_target(d: Delivery) -> u32
+    ensures { λ r. ⌜ r ≡ firstTarget d ⌝ }
+{
+    match d {
+        Delivery::Direct => 1,
+        Delivery::Message => 0,
+    }
+}
+
+// An inactive source has target 0.
+fn configure_target(d: Delivery, old: Mode, new: Mode, target: u32) -> u32
+    ensures { λ r. ⌜ r ≡ configuredTarget d old new target ⌝ }
 {
     if is_active(new) {
         if is_active(old) {
             return target;
         }
+        return first_target(d);
     }
     0
 }
 
-// Hart index, guest index and identity; bit 11 is reserved.
-fn target_of(v: u32) -> u32
-    ensures { λ r. ⌜ r ≡ targetOf Message v ⌝ }
+// Direct: hart index and priority, a priority 0 kept as 1. Message: hart index, guest index and identity; bit 11 is reserved.
+fn target_of(d: Delivery, v: u32) -> u32
+    ensures { λ r. ⌜ r ≡ targetOf d v ⌝ }
 {
+    if is_direct(d) {
+        if v % 256 == 0 {
+            return v / 0x4_0000 % 0x4000 * 0x4_0000 + 1;
+        }
+        return v / 0x4_0000 % 0x4000 * 0x4_0000 + v % 256;
+    }
     v / 0x1000 % 0x10_0000 * 0x1000 + v % 2048
 }
 
 // The target of an inactive source is read-only.
-fn aim_target(m: Mode, v: u32, target: u32) -> u32
-    ensures { λ r. ⌜ r ≡ aimedTarget Message m v target ⌝ }
+fn aim_target(d: Delivery, m: Mode, v: u32, target: u32) -> u32
+    ensures { λ r. ⌜ r ≡ aimedTarget d m v target ⌝ }
 {
     if is_active(m) {
-        return target_of(v);
+        return target_of(d, v);
     }
     target
 }
 
 impl Source {
     // A write of sourcecfg.
-    pub fn configure(self, v: u32) -> Source
-        ensures { λ r. ⌜ r ≡ configured Message v self ⌝ }
+    pub fn configure(self, d: Delivery, v: u32) -> Source
+        ensures { λ r. ⌜ r ≡ configured d v self ⌝ }
     {
         let old = self.mode;
         let m = mode_of(v);
@@ -173,13 +198,13 @@ impl Source {
             wire: self.wire,
             pending: configure_pending(m, self.wire, self.pending),
             enable: is_active(m) & self.enable,
-            target: configure_target(old, m, self.target),
+            target: configure_target(d, old, m, self.target),
         }
     }
 
     // A write of target.
-    pub fn aim(self, v: u32) -> Source
-        ensures { λ r. ⌜ r ≡ aimed Message v self ⌝ }
+    pub fn aim(self, d: Delivery, v: u32) -> Source
+        ensures { λ r. ⌜ r ≡ aimed d v self ⌝ }
     {
         let m = self.mode;
         Source {
@@ -187,7 +212,7 @@ impl Source {
             wire: self.wire,
             pending: self.pending,
             enable: self.enable,
-            target: aim_target(m, v, self.target),
+            target: aim_target(d, m, v, self.target),
         }
     }
 }

@@ -6,11 +6,12 @@ use lib.Bits.{bitAnd, bitOr, bitXor}
 use Rattle.memory.specs.Bits.{without}
 use Rattle.memory.specs.Choice.{pick}
 use Rattle.memory.proofs.Truth.{Row, every, same, is-same}
-use Rattle.word.specs.Word.{marks, setOf}
-use Rattle.word.proofs.Bits.{other, bit-and, bit-or, bit-xor, bit-without, bit-set}
-use Rattle.source.specs.declared.Delivery.the-variants.{Message}
+use Rattle.word.specs.Word.{marks, inside, setOf}
+use Rattle.word.proofs.Bits.{is-inside, other, bit-and, bit-or, bit-xor, bit-without, bit-set}
+use Rattle.source.specs.declared.Delivery.{Delivery}
+use Rattle.source.specs.declared.Delivery.the-variants.{Direct, Message}
 use Rattle.source.specs.declared.Source.{Source}
-use Rattle.source.specs.Source.{modeFrom, activeOf, rectified, Event, input, setip, clrip, pendingAfter, raised, lowered, allowed, sensed, inputOf}
+use Rattle.source.specs.Source.{directOf, modeFrom, activeOf, rectified, Event, input, setip, clrip, pendingAfter, raised, lowered, allowed, sensed, inputOf}
 use Rattle.sources.specs.declared.Sources.{Sources}
 use Rattle.sources.specs.Sources.{sourceOf, Acts, Inputs}
 
@@ -40,43 +41,54 @@ row-of : (m wd lv lo wi p en q : Bool) (t : ℕ) (f : Source → Source)
 row-of true wd lv lo wi p en q t f e h = ap (λ (x : Bool). mk wd lv lo wi x en t) e ∙ sym h
 row-of false wd lv lo wi p en q t f e h = ap (λ (x : Bool). mk wd lv lo wi x en t) e
 
-abbrev raise′ : Row 6
-raise′ m wd lv lo wi p = m && ((wd || lo) && not ((wd && lv) && not (other wi lo))) || p
+-- the bits of a mask, and what the rules make of a source, in each delivery mode
+abbrev raise′ : Bool → Row 6
+raise′ di m wd lv lo wi p = m && ((wd || lo) && not ((wd && lv) && not (other wi lo && not di))) || p
 
-abbrev lower′ : Row 6
-lower′ m wd lv lo wi p = p && not (m && (wd || lo))
+abbrev lower′ : Bool → Row 6
+lower′ di m wd lv lo wi p = p && not (m && ((wd || lo) && not ((wd && lv) && di)))
 
-raise-bits : (m wd lv lo wi p : Bool) → raise′ m wd lv lo wi p ≡ pick m (pendingAfter Message (modeFrom wd lv lo) (setip (rectified (modeFrom wd lv lo) wi)) p) p
-raise-bits m wd lv lo wi p =
-    is-same _ _ (every 6 (Same raise′ (λ m wd lv lo wi p. pick m (pendingAfter Message (modeFrom wd lv lo) (setip (rectified (modeFrom wd lv lo) wi)) p) p)) refl m wd lv lo wi p)
+abbrev raised′ : Delivery → Row 6
+raised′ d m wd lv lo wi p = pick m (pendingAfter d (modeFrom wd lv lo) (setip (rectified (modeFrom wd lv lo) wi)) p) p
 
-lower-bits : (m wd lv lo wi p : Bool) → lower′ m wd lv lo wi p ≡ pick m (pendingAfter Message (modeFrom wd lv lo) clrip p) p
-lower-bits m wd lv lo wi p =
-    is-same _ _ (every 6 (Same lower′ (λ m wd lv lo wi p. pick m (pendingAfter Message (modeFrom wd lv lo) clrip p) p)) refl m wd lv lo wi p)
+abbrev lowered′ : Delivery → Row 6
+lowered′ d m wd lv lo wi p = pick m (pendingAfter d (modeFrom wd lv lo) clrip p) p
 
-raise-row : (m wd lv lo wi p en : Bool) (t : ℕ) → mk wd lv lo wi (raise′ m wd lv lo wi p) en t ≡ pick m (raised Message (mk wd lv lo wi p en t)) (mk wd lv lo wi p en t)
+raise-bits : (d : Delivery) (m wd lv lo wi p : Bool) → raise′ (directOf d) m wd lv lo wi p ≡ raised′ d m wd lv lo wi p
+raise-bits Direct m wd lv lo wi p = is-same _ _ (every 6 (Same (raise′ true) (raised′ Direct)) refl m wd lv lo wi p)
+raise-bits Message m wd lv lo wi p = is-same _ _ (every 6 (Same (raise′ false) (raised′ Message)) refl m wd lv lo wi p)
+
+lower-bits : (d : Delivery) (m wd lv lo wi p : Bool) → lower′ (directOf d) m wd lv lo wi p ≡ lowered′ d m wd lv lo wi p
+lower-bits Direct m wd lv lo wi p = is-same _ _ (every 6 (Same (lower′ true) (lowered′ Direct)) refl m wd lv lo wi p)
+lower-bits Message m wd lv lo wi p = is-same _ _ (every 6 (Same (lower′ false) (lowered′ Message)) refl m wd lv lo wi p)
+
+raise-row : (d : Delivery) (m wd lv lo wi p en : Bool) (t : ℕ) → mk wd lv lo wi (raise′ (directOf d) m wd lv lo wi p) en t ≡ pick m (raised d (mk wd lv lo wi p en t)) (mk wd lv lo wi p en t)
 unfolding raised
-raise-row m wd lv lo wi p en t = row-of m wd lv lo wi p en _ t (raised Message) (raise-bits m wd lv lo wi p) refl
+raise-row d m wd lv lo wi p en t = row-of m wd lv lo wi p en _ t (raised d) (raise-bits d m wd lv lo wi p) refl
 
-lower-row : (m wd lv lo wi p en : Bool) (t : ℕ) → mk wd lv lo wi (lower′ m wd lv lo wi p) en t ≡ pick m (lowered Message (mk wd lv lo wi p en t)) (mk wd lv lo wi p en t)
+lower-row : (d : Delivery) (m wd lv lo wi p en : Bool) (t : ℕ) → mk wd lv lo wi (lower′ (directOf d) m wd lv lo wi p) en t ≡ pick m (lowered d (mk wd lv lo wi p en t)) (mk wd lv lo wi p en t)
 unfolding lowered
-lower-row m wd lv lo wi p en t = row-of m wd lv lo wi p en _ t (lowered Message) (lower-bits m wd lv lo wi p) refl
+lower-row d m wd lv lo wi p en t = row-of m wd lv lo wi p en _ t (lowered d) (lower-bits d m wd lv lo wi p) refl
 
 -- with other pending bits
 abbrev pended : Sources → ℕ → Sources
 pended s p = record { wired = s .wired; level = s .level; low = s .low; wires = s .wires; pending = p; enable = s .enable }
 
-module _ (s : Sources) (mask : ℕ) where
-  pub raises : (a b : ℕ) → a ≡ without (bitAnd (s .wired) (s .level)) (bitXor (s .wires) (s .low)) → b ≡ without (bitOr (s .wired) (s .low)) a
-      → Acts (marks mask) (raised Message) s (pended s (bitOr (bitAnd mask b) (s .pending)))
-  unfolding Acts sourceOf
-  raises a b ha hb i t _ _ =
-      rw (hb, ha) (simp (bit-or, bit-and, bit-without, bit-xor) (raise-row (marks mask i) (marks (s .wired) i) (marks (s .level) i) (marks (s .low) i) (marks (s .wires) i) (marks (s .pending) i) (marks (s .enable) i) t))
+-- e has every source in direct delivery, and none in message delivery
+module _ (s : Sources) (d : Delivery) (mask e : ℕ) (b : Bool) (hb : b ≡ directOf d) (he : (i : ℕ) → inside i ≡ true → marks e i ≡ b) where
+  direct-at : (i : ℕ) → 0 < i → i < 64 → marks e i ≡ directOf d
+  direct-at i p q = he i (is-inside i p q) ∙ hb
 
-  pub lowers : (q : ℕ) → q ≡ without (s .pending) (bitAnd mask (bitOr (s .wired) (s .low))) → Acts (marks mask) (lowered Message) s (pended s q)
+  pub raises : (h a o : ℕ) → h ≡ without (bitXor (s .wires) (s .low)) e → a ≡ without (bitAnd (s .wired) (s .level)) h → o ≡ without (bitOr (s .wired) (s .low)) a
+      → Acts (marks mask) (raised d) s (pended s (bitOr (bitAnd mask o) (s .pending)))
   unfolding Acts sourceOf
-  lowers q hq i t _ _ =
-      rw hq (simp (bit-or, bit-and, bit-without) (lower-row (marks mask i) (marks (s .wired) i) (marks (s .level) i) (marks (s .low) i) (marks (s .wires) i) (marks (s .pending) i) (marks (s .enable) i) t))
+  raises h a o hh ha ho i t p q =
+      rw (ho, ha, hh) (simp (bit-or, bit-and, bit-without, bit-xor, direct-at i p q) (raise-row d (marks mask i) (marks (s .wired) i) (marks (s .level) i) (marks (s .low) i) (marks (s .wires) i) (marks (s .pending) i) (marks (s .enable) i) t))
+
+  pub lowers : (o z : ℕ) → o ≡ without (bitOr (s .wired) (s .low)) (bitAnd (bitAnd (s .wired) (s .level)) e) → z ≡ without (s .pending) (bitAnd mask o) → Acts (marks mask) (lowered d) s (pended s z)
+  unfolding Acts sourceOf
+  lowers o z ho hz i t p q =
+      rw (hz, ho) (simp (bit-or, bit-and, bit-without, direct-at i p q) (lower-row d (marks mask i) (marks (s .wired) i) (marks (s .level) i) (marks (s .low) i) (marks (s .wires) i) (marks (s .pending) i) (marks (s .enable) i) t))
 
 -- ---- enable bits
 active-bits : (wd lv lo : Bool) → wd || lo ≡ activeOf (modeFrom wd lv lo)
@@ -112,36 +124,39 @@ module _ (s : Sources) (mask : ℕ) where
 abbrev wire′ : Bool → Bool → Bool → Bool
 wire′ m on wi = pick on (wi || m) (wi && not m)
 
-abbrev sense′ : Row 7
-sense′ m on wd lv lo wi p = (input′ wd lo (wire′ m on wi) && not (input′ wd lo wi) || p) && not ((m && (wd && lv)) && not (input′ wd lo (wire′ m on wi)))
+abbrev sense′ : Bool → Row 7
+sense′ di m on wd lv lo wi p =
+    (m && (wd && lv)) && (input′ wd lo (wire′ m on wi) && di) || (input′ wd lo (wire′ m on wi) && not (input′ wd lo wi) || p) && not ((m && (wd && lv)) && not (input′ wd lo (wire′ m on wi)))
 
-abbrev told : Row 7
-told m on wd lv lo wi p = pick m (pendingAfter Message (modeFrom wd lv lo) (input (rectified (modeFrom wd lv lo) wi) (rectified (modeFrom wd lv lo) on)) p) p
+abbrev told : Delivery → Row 7
+told d m on wd lv lo wi p = pick m (pendingAfter d (modeFrom wd lv lo) (input (rectified (modeFrom wd lv lo) wi) (rectified (modeFrom wd lv lo) on)) p) p
 
-sense-bits : (m on wd lv lo wi p : Bool) → sense′ m on wd lv lo wi p ≡ told m on wd lv lo wi p
-sense-bits m on wd lv lo wi p = is-same _ _ (every 7 (λ m on wd lv lo wi p. same (sense′ m on wd lv lo wi p) (told m on wd lv lo wi p)) refl m on wd lv lo wi p)
+sense-bits : (d : Delivery) (m on wd lv lo wi p : Bool) → sense′ (directOf d) m on wd lv lo wi p ≡ told d m on wd lv lo wi p
+sense-bits Direct m on wd lv lo wi p = is-same _ _ (every 7 (λ m on wd lv lo wi p. same (sense′ true m on wd lv lo wi p) (told Direct m on wd lv lo wi p)) refl m on wd lv lo wi p)
+sense-bits Message m on wd lv lo wi p = is-same _ _ (every 7 (λ m on wd lv lo wi p. same (sense′ false m on wd lv lo wi p) (told Message m on wd lv lo wi p)) refl m on wd lv lo wi p)
 
 wire-bits : (m on wi : Bool) → wire′ m on wi ≡ pick m on wi
 wire-bits m on wi = is-same _ _ (every 3 (λ m on wi. same (wire′ m on wi) (pick m on wi)) refl m on wi)
 
-sense-row : (m on wd lv lo wi p en : Bool) (t : ℕ)
-    → mk wd lv lo (wire′ m on wi) (sense′ m on wd lv lo wi p) en t ≡ pick m (sensed Message on (mk wd lv lo wi p en t)) (mk wd lv lo wi p en t)
+sense-row : (d : Delivery) (m on wd lv lo wi p en : Bool) (t : ℕ)
+    → mk wd lv lo (wire′ m on wi) (sense′ (directOf d) m on wd lv lo wi p) en t ≡ pick m (sensed d on (mk wd lv lo wi p en t)) (mk wd lv lo wi p en t)
 unfolding sensed
-sense-row m on wd lv lo wi p en t = rw (sense-bits m on wd lv lo wi p, wire-bits m on wi) (go m)
+sense-row d m on wd lv lo wi p en t = rw (sense-bits d m on wd lv lo wi p, wire-bits m on wi) (go m)
   where
-    go : (m : Bool) → mk wd lv lo (pick m on wi) (told m on wd lv lo wi p) en t ≡ pick m (sensed Message on (mk wd lv lo wi p en t)) (mk wd lv lo wi p en t)
+    go : (m : Bool) → mk wd lv lo (pick m on wi) (told d m on wd lv lo wi p) en t ≡ pick m (sensed d on (mk wd lv lo wi p en t)) (mk wd lv lo wi p en t)
     go true = refl
     go false = refl
 
-module _ (s : Sources) (mask : ℕ) (on : Bool) where
+module _ (s : Sources) (d : Delivery) (mask e : ℕ) (on b : Bool) (hb : b ≡ directOf d) (he : (i : ℕ) → inside i ≡ true → marks e i ≡ b) where
   pub senses : (w r f q : ℕ) → w ≡ setOf (s .wires) mask on
       → r ≡ without (bitAnd (s .wired) (bitXor w (s .low))) (bitAnd (s .wired) (bitXor (s .wires) (s .low)))
       → f ≡ without (bitAnd mask (bitAnd (s .wired) (s .level))) (bitAnd (s .wired) (bitXor w (s .low)))
       → q ≡ without (bitOr r (s .pending)) f
-      → Acts (marks mask) (sensed Message on) s (record { wired = s .wired; level = s .level; low = s .low; wires = w; pending = q; enable = s .enable })
+      → Acts (marks mask) (sensed d on) s
+      (record { wired = s .wired; level = s .level; low = s .low; wires = w; pending = bitOr (bitAnd (bitAnd mask (bitAnd (s .wired) (s .level))) (bitAnd (bitAnd (s .wired) (bitXor w (s .low))) e)) q; enable = s .enable })
   unfolding Acts sourceOf
-  senses w r f q hw hr hf hq i t _ _ =
+  senses w r f q hw hr hf hq i t p k =
       rw (hq, hr, hf, hw)
-      (simp (bit-or, bit-and, bit-without, bit-xor, bit-set) (sense-row (marks mask i) on (marks (s .wired) i) (marks (s .level) i) (marks (s .low) i) (marks (s .wires) i) (marks (s .pending) i) (marks (s .enable) i) t))
+      (simp (bit-or, bit-and, bit-without, bit-xor, bit-set, he i (is-inside i p k) ∙ hb) (sense-row d (marks mask i) on (marks (s .wired) i) (marks (s .level) i) (marks (s .low) i) (marks (s .wires) i) (marks (s .pending) i) (marks (s .enable) i) t))
 
 pub ruleset masks = (inputs-are, raises, lowers, allows, forbids, senses)

@@ -4,7 +4,8 @@ use mathlib.Core.Bool.{Bool, _&&_}
 use mathlib.Core.Path.{_≡_}
 use Rattle.memory.specs.Choice.{pick}
 use Rattle.word.specs.Word.{marks, inside, lowest}
-use Rattle.source.specs.declared.Delivery.the-variants.{Message}
+use Rattle.hart.specs.declared.Hart.{Hart}
+use Rattle.source.specs.declared.Delivery.{Delivery}
 use Rattle.source.specs.declared.Source.{Source}
 use Rattle.source.specs.Source.{modeFrom, inputOf}
 use Rattle.source.specs.Table.{Table, quiet}
@@ -21,9 +22,15 @@ sourceOf s i t =
       target = t;
     }
 
--- the table, with the domain's enable and the sources' targets
-unfoldable pub tableWith : Bool → Sources → (ℕ → ℕ) → Table
-tableWith ie s targets = record { delivery = Message; enable = ie; row = λ i. pick (inside i) (sourceOf s i (targets i)) quiet }
+-- what the sources have in common: the delivery mode, the domain's enable, the harts' records
+pub record Common : Type 0 where
+  pub delivery : Delivery
+  pub enable : Bool
+  pub hart : ℕ → Hart
+
+-- the table, with what the sources have in common and their targets
+unfoldable pub tableWith : Common → Sources → (ℕ → ℕ) → Table
+tableWith c s targets = record { delivery = c .delivery; enable = c .enable; row = λ i. pick (inside i) (sourceOf s i (targets i)) quiet; hart = c .hart }
 
 -- in r, each source that is chosen is what f makes of it, and each other one is as it was
 unfoldable pub Acts : (ℕ → Bool) → (Source → Source) → Sources → Sources → Type 0

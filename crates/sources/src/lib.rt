@@ -4,8 +4,8 @@ ghost use mathlib.Core.Bool.{true, false};
 ghost use Prim.Native.Nat.{ℕ, _<_};
 ghost use Rattle.word.specs.Word.{marks, only};
 ghost use Rattle.source.specs.Source.{raised, lowered, allowed, sensed};
-ghost use Rattle.source.specs.declared.Delivery.the-variants.{Message};
 ghost use Rattle.sources.specs.Sources.{sourceOf, Acts, Inputs, lined, firstWaiting};
+use source::Delivery;
 use source::Source;
 
 // A source's mode is three bits, those of its number: attached to the wire, level-sensitive, the lowest bit.
@@ -59,34 +59,42 @@ impl Sources {
     }
 
     // The wires of the mask take a level. Where the rectified input rises a source becomes pending; where it is low a level-sensitive one is so no more.
-    pub fn sense(mut self, mask: u64, level: bool) -> Sources
-        ensures { λ r. ⌜ Acts (marks mask) (sensed Message level) self r ⌝ }
+    // In direct delivery a level-sensitive source is pending where the rectified input is high.
+    pub fn sense(mut self, d: Delivery, mask: u64, level: bool) -> Sources
+        ensures { λ r. ⌜ Acts (marks mask) (sensed d level) self r ⌝ }
     {
+        let direct = word::every(source::is_direct(d));
         let was = self.wired & (self.wires ^ self.low);
         let wires = word::set(self.wires, mask, level);
         let now = self.wired & (wires ^ self.low);
         let rise = word::without(now, was);
-        let fallen = word::without(mask & (self.wired & self.level), now);
+        let levels = mask & (self.wired & self.level);
+        let fallen = word::without(levels, now);
         self.wires = wires;
-        self.pending = word::without(rise | self.pending, fallen);
+        self.pending = levels & (now & direct) | word::without(rise | self.pending, fallen);
         self
     }
 
-    // Sets pending bits: of active sources, but not of a level-sensitive one whose rectified input is low.
-    pub fn raise(mut self, mask: u64) -> Sources
-        ensures { λ r. ⌜ Acts (marks mask) (raised Message) self r ⌝ }
+    // Sets pending bits: of active sources, but not of a level-sensitive one whose rectified input is low, nor of any such one in direct delivery.
+    pub fn raise(mut self, d: Delivery, mask: u64) -> Sources
+        ensures { λ r. ⌜ Acts (marks mask) (raised d) self r ⌝ }
     {
-        let idle = word::without(self.wired & self.level, self.wires ^ self.low);
+        let direct = word::every(source::is_direct(d));
+        let high = word::without(self.wires ^ self.low, direct);
+        let idle = word::without(self.wired & self.level, high);
         let open = word::without(self.wired | self.low, idle);
         self.pending = mask & open | self.pending;
         self
     }
 
-    // Clears pending bits of active sources.
-    pub fn lower(mut self, mask: u64) -> Sources
-        ensures { λ r. ⌜ Acts (marks mask) (lowered Message) self r ⌝ }
+    // Clears pending bits of active sources, but not of a level-sensitive one in direct delivery.
+    pub fn lower(mut self, d: Delivery, mask: u64) -> Sources
+        ensures { λ r. ⌜ Acts (marks mask) (lowered d) self r ⌝ }
     {
-        self.pending = word::without(self.pending, mask & (self.wired | self.low));
+        let direct = word::every(source::is_direct(d));
+        let held = self.wired & self.level & direct;
+        let open = word::without(self.wired | self.low, held);
+        self.pending = word::without(self.pending, mask & open);
         self
     }
 

@@ -7,19 +7,19 @@ use Rattle.source.proofs.aim_target.Lts as lts
 use Rattle.source.proofs.is_active.Reads as is-active-reads
 use Rattle.source.proofs.target_of.Reads as target-of-reads
 
--- src/lib.rt:199:8
+-- src/lib.rt:183:8
 is-active-requires : tie.Need-is-active-requires
 is-active-requires c κs = search needs
 
--- src/lib.rt:200:9
+-- src/lib.rt:184:9
 target-of-requires : tie.Need-target-of-requires
 target-of-requires c κs = search needs
 
--- src/lib.rt:200:9
+-- src/lib.rt:184:9
 returns : tie.Need-returns
 returns c = search (picks, flags, needs)
 
--- src/lib.rt:196:1
+-- src/lib.rt:180:1
 returns-2 : tie.Need-returns-2
 returns-2 c = search needs
 

@@ -6,11 +6,11 @@ use Rattle.source.proofs.Source.aim.Reads as reads
 use Rattle.source.proofs.Source.aim.Lts as lts
 use Rattle.source.proofs.aim_target.Reads as aim-target-reads
 
--- src/lib.rt:231:21
+-- src/lib.rt:215:21
 aim-target-requires : tie.Need-aim-target-requires
 aim-target-requires c κs = search needs
 
--- src/lib.rt:222:5
+-- src/lib.rt:206:5
 returns : tie.Need-returns
 unfolding aimed
 returns c = cc

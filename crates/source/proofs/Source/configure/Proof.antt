@@ -9,23 +9,23 @@ use Rattle.source.proofs.configure_target.Reads as configure-target-rea
 use Rattle.source.proofs.is_active.Reads as is-active-reads
 use Rattle.source.proofs.mode_of.Reads as mode-of-reads
 
--- src/lib.rt:170:13
+-- src/lib.rt:195:13
 mode-of-requires : tie.Need-mode-of-requires
 mode-of-requires c κs = search needs
 
--- src/lib.rt:174:22
+-- src/lib.rt:199:22
 configure-pending-requires : tie.Need-configure-pending-requires
 configure-pending-requires c κs = search needs
 
--- src/lib.rt:175:21
+-- src/lib.rt:200:21
 is-active-requires : tie.Need-is-active-requires
 is-active-requires c κs = search needs
 
--- src/lib.rt:176:21
+-- src/lib.rt:201:21
 configure-target-requires : tie.Need-configure-target-requires
 configure-target-requires c κs = search needs
 
--- src/lib.rt:166:5
+-- src/lib.rt:191:5
 returns : tie.Need-returns
 unfolding configured
 returns c = cc
