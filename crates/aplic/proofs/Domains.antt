@@ -1,54 +1,80 @@
 -- The calls of a domain by value. Assumes nothing.
-use mathlib.Core.Path.{_≡_, refl, sym, ap, _∙_}
-use mathlib.Core.Bool.{Bool, true, false}
-use mathlib.Core.List.{List}
-use Prim.Native.Nat.{ℕ, _<_, _≤_, _/_, _%_}
+use mathlib.Core.Path.{_≡_, refl, sym, ap, ap₂, _∙_, fun-ext}
+use mathlib.Core.Bool.{Bool, true, false, not, _&&_, _||_}
+use mathlib.Core.List.{List, map}
+use Prim.Native.Nat.{ℕ, zero, suc, _<_, _≤_, _+_, _*_, _/_, _%_, _^_}
 use native.Mathlib.Nat.{div-one}
 use native.Mathlib.Omega.{arith}
 use borrow.Author.Tests.{eqb-true, eqb-false, lt-ltb, le-ltb}
+use lib.Bits.{bitAnd}
 use lib.Dec.{eqb}
-use lib.ListN.{getD, set, length, replicate, getD-replicate}
+use lib.ListN.{getD, set, length, length-map, replicate, getD-replicate}
 use lib.Seq.{getD-set-same, getD-set-other}
 use Rattle.memory.specs.Choice.{pick}
-use Rattle.word.specs.Word.{marks, inside, only}
-use Rattle.word.proofs.Bits.{within, is-inside, zero-digit}
+use Rattle.word.specs.Word.{marks, inside, only, digit, lowest, putOf}
+use Rattle.word.proofs.Bits.{and-true, within, is-inside, zero-digit}
 use Rattle.register.specs.declared.BitRegister.{BitRegister}
 use Rattle.register.specs.declared.Register.{Register}
-use Rattle.register.specs.declared.Register.the-variants.{DomainCfg, SourceCfg, OfBits, Target, Nothing}
+use Rattle.register.specs.declared.Register.the-variants.{DomainCfg, SourceCfg, OfBits, Target, OfHart, ClaimI, Nothing}
 use Rattle.register.specs.Register.{registerOf}
 use Rattle.register.proofs.Known.{source-above, source-below, target-above, target-below}
-use Rattle.source.specs.declared.Delivery.the-variants.{Message}
+use Rattle.register.specs.declared.HartRegister.{HartRegister}
+use Rattle.register.specs.declared.HartRegister.the-variants.{IDelivery, IForce, IThreshold, TopI}
+use Rattle.hart.specs.declared.Hart.{Hart}
+use Rattle.hart.specs.Hart.{resting, wroteOf, unforced, topWord, hartRefusal}
+use Rattle.hart.specs.Kept.{recordOf, keptOf, limitOf, betterOf}
+use Rattle.hart.proofs.Records.{same-record, record-small, record-rests, wrote-small}
+use Rattle.source.specs.declared.Delivery.{Delivery}
+use Rattle.source.specs.declared.Delivery.the-variants.{Direct, Message}
 use Rattle.source.specs.declared.Source.{Source}
-use Rattle.source.specs.Source.{numberOf, sensed, lowered, configured, aimed}
+use Rattle.source.specs.Source.{directOf, numberOf, handed, sensed, lowered, configured, aimed}
 use Rattle.source.specs.Table.{Table, quiet, startOf, act}
 use Rattle.sources.specs.declared.Sources.{Sources}
 use Rattle.sources.specs.Sources.{sourceOf, tableWith, Acts, lined, firstWaiting}
 use Rattle.aplic.specs.declared.Domain.{Domain}
 use Rattle.aplic.specs.declared.Msi.{Msi}
 use Rattle.aplic.specs.declared.Sent.the-variants.{Idle, Forwarded}
-use Rattle.aplic.specs.Calls.{wireTable, wireRefusal, concerned, change, enabledBy, writeRegister, writeTable, readRegister, readTable, domainWord, forwardTable, sends, sentOf, msiOf}
-use Rattle.aplic.specs.Domain.{tableOf, Shows}
-use Rattle.aplic.proofs.Tables.{same-table, written, told, acts-table, row-at, configured-table, aimed-table, wired-table, unwired-table, none-sent, none-waits, kept-table, kept-sent, forwarded-table, forwarded-sent}
+use Rattle.aplic.specs.Calls.{wireTable, wireRefusal, concerned, change, enabledBy, writeRegister, writeTable, readRegister, readTable, claimedBy, afterRead, deliveryNumber, domainWord, forwardTable, sends, sentOf, msiOf}
+use Rattle.aplic.specs.Direct.{reaches, withHart, topAt, topi, claimTable, claimHart, claimed, claimValue, writeHart, readHart, signalled, tells}
+use Rattle.aplic.specs.Domain.{commonOf, tableOf, Shows}
+use Rattle.aplic.proofs.Tables.{same-table, acts-ext, handed-is, written, told, stays, acts-table, row-at, configured-table, aimed-table, wired-table, unwired-table, none-sent, none-waits, kept-table, kept-sent, forwarded-table, forwarded-sent}
+use Rattle.aplic.proofs.Tops.{Looked, looked-first, looked-next, looked-less, looked-done}
+use Rattle.aplic.proofs.Claims.{reach-yes, reach-mode, reach-refused, below-of, unreached-topi, unreached-table, unreached-hart, unreached-claim, unreached-value, unreached-write, unreached-read, unreached-signal}
+use Rattle.aplic.proofs.Claims.{top-reached, nothing-topi, nothing-table, nothing-hart, taken-hart, taken-table, claimed-by, claim-small, wrote-is, tells-delivery, tells-force, tells-threshold, tells-top, table-forced, table-top, table-off}
 
-abbrev aims : List ℕ → ℕ → ℕ
+abbrev pub aims : List ℕ → ℕ → ℕ
 aims targets n = getD targets n 0
 
 abbrev withSources : Domain → Sources → Domain
-withSources d x = record { enable = d .enable; sources = x; targets = d .targets }
+withSources d x = record { delivery = d .delivery; enable = d .enable; sources = x; targets = d .targets; harts = d .harts }
 
-put-target : (xs : List ℕ) (n i v : ℕ) → n < length xs → getD (set xs n v) i 0 ≡ pick (eqb i n) v (getD xs i 0)
-put-target xs n i v l = go (eqb i n) refl
+put-at : {A : Type 0} (z : A) (xs : List A) (n i : ℕ) (v : A) → n < length xs → getD (set xs n v) i z ≡ pick (eqb i n) v (getD xs i z)
+put-at z xs n i v l = go (eqb i n) refl
   where
-    go : (b : Bool) → eqb i n ≡ b → getD (set xs n v) i 0 ≡ pick b v (getD xs i 0)
-    go true e = rw (eqb-true i n e) (getD-set-same xs n v 0 l)
-    go false e = getD-set-other xs n i v 0 (eqb-false i n e)
+    go : (b : Bool) → eqb i n ≡ b → getD (set xs n v) i z ≡ pick b v (getD xs i z)
+    go true e = rw (eqb-true i n e) (getD-set-same xs n v z l)
+    go false e = getD-set-other xs n i v z (eqb-false i n e)
 
 -- ---- fields
-pub word-on : (ie : Bool) → ie ≡ true → 0x8000_0104 ≡ domainWord ie Message
-word-on ie e = rw e
+module _ (ie b : Bool) (d : Delivery) (hb : b ≡ directOf d) where
+  word-by : (x y : Bool) (v : ℕ) → ie ≡ x → b ≡ y → v ≡ 0x80 * 2 ^ 24 + digit x * 2 ^ 8 + digit (not y) * 2 ^ 2 → v ≡ domainWord ie d
+  word-by x y v p q e = e ∙ ap₂ (λ (u w : Bool). 0x80 * 2 ^ 24 + digit u * 2 ^ 8 + digit (not w) * 2 ^ 2) (sym p) (sym q ∙ hb) ∙ ap (λ (n : ℕ). 0x80 * 2 ^ 24 + digit ie * 2 ^ 8 + n * 2 ^ 2) (go d)
+    where
+      go : (d : Delivery) → digit (not (directOf d)) ≡ deliveryNumber d
+      go Direct = refl
+      go Message = refl
 
-pub word-off : (ie : Bool) → ie ≡ false → 0x8000_0004 ≡ domainWord ie Message
-word-off ie e = rw e
+  pub word-direct-on : ie ≡ true → b ≡ true → 0x8000_0100 ≡ domainWord ie d
+  word-direct-on p q = word-by true true _ p q refl
+
+  pub word-message-on : ie ≡ true → b ≡ false → 0x8000_0104 ≡ domainWord ie d
+  word-message-on p q = word-by true false _ p q refl
+
+  pub word-direct-off : ie ≡ false → b ≡ true → 0x8000_0000 ≡ domainWord ie d
+  word-direct-off p q = word-by false true _ p q refl
+
+  pub word-message-off : ie ≡ false → b ≡ false → 0x8000_0004 ≡ domainWord ie d
+  word-message-off p q = word-by false false _ p q refl
 
 pub msi-is : (v : ℕ) → _≡_ {A = Msi} (record { hart = v / 0x4_0000 % 0x4000; guest = v / 0x1000 % 64; identity = v % 2048 }) (msiOf v)
 msi-is v = rw div-one
@@ -65,7 +91,7 @@ pub refused-past : (n : ℕ) → 63 < n → 2014 ≡ wireRefusal n
 unfolding wireRefusal
 refused-past n e = rw (lt-ltb 0 n (omega arith), le-ltb n 64 (omega arith))
 
-pub ruleset fields = (word-on, word-off, msi-is, wire-taken, refused-zero, refused-past)
+pub ruleset fields = (word-direct-on, word-message-on, word-direct-off, word-message-off, msi-is, wire-taken, refused-zero, refused-past)
 
 -- a source's mode by its number
 pub mode-number : (s : Sources) (n r : ℕ) (y : Source) → y ≡ sourceOf s n 0 → r ≡ numberOf (y .mode) → r ≡ numberOf (sourceOf s n 0 .mode)
@@ -75,38 +101,54 @@ mode-number s n r y p q = q ∙ ap (λ (x : Source). numberOf (x .mode)) p
 abbrev zeros : Sources
 zeros = record { wired = 0; level = 0; low = 0; wires = 0; pending = 0; enable = 0 }
 
-pub started : tableOf (record { enable = false; sources = zeros; targets = replicate 64 0 }) ≡ startOf Message
+pub started : (dm : Delivery) → tableOf (record { delivery = dm; enable = false; sources = zeros; targets = replicate 64 0; harts = replicate 16 0 }) ≡ startOf dm
 unfolding tableOf tableWith sourceOf
-started = same-table _ _ _ _ _ _ refl refl (λ i. go i (inside i) refl)
+started dm = same-table _ _ _ _ _ _ _ _ refl refl (fun-ext (λ h. rests 16 h)) (λ i. go i (inside i) refl)
   where
+    rests : (n h : ℕ) → recordOf (getD (replicate n 0) h 0) ≡ resting
+    rests zero h = record-rests
+    rests (suc n) zero = record-rests
+    rests (suc n) (suc h) = rests n h
+
     go : (i : ℕ) (b : Bool) → inside i ≡ b → pick b (sourceOf zeros i (getD (replicate 64 0) i 0)) quiet ≡ quiet
     go i true k = rw (zero-digit i, getD-replicate {A = ℕ} 64 i 0 0 (within i k .1))
     go i false k = refl
 
+abbrev harted : Domain → ℕ → ℕ → Domain
+harted d h w = record { delivery = d .delivery; enable = d .enable; sources = d .sources; targets = d .targets; harts = set (d .harts) h w }
+
+hart-put : (d : Domain) (h w : ℕ) (y : Hart) → w ≡ keptOf y → y .threshold < 256 → h < length (d .harts) → tableOf (harted d h w) ≡ withHart h y (tableOf d)
+unfolding tableOf tableWith withHart
+hart-put d h w y e s l = same-table _ _ _ _ _ _ _ _ refl refl (fun-ext (λ k. ap recordOf (put-at 0 (d .harts) h k w l) ∙ go k (eqb k h))) (λ i. refl)
+  where
+    go : (k : ℕ) (b : Bool) → recordOf (pick b w (getD (d .harts) k 0)) ≡ pick b y (recordOf (getD (d .harts) k 0))
+    go k true = ap recordOf e ∙ same-record y s
+    go k false = refl
+
 module _ (d : Domain) where
   -- ---- a wire
   module _ (n : ℕ) (level : Bool) where
-    pub wire-goes : (mask : ℕ) (x : Sources) → ((i : ℕ) → inside i ≡ true → marks mask i ≡ only n i) → Acts (marks mask) (sensed Message level) (d .sources) x → tableOf (withSources d x) ≡ wireTable n level (tableOf d)
+    pub wire-goes : (mask : ℕ) (x : Sources) → ((i : ℕ) → inside i ≡ true → marks mask i ≡ only n i) → Acts (marks mask) (sensed (d .delivery) level) (d .sources) x → tableOf (withSources d x) ≡ wireTable n level (tableOf d)
     unfolding tableOf
-    wire-goes mask x h a = wired-table (d .enable) (d .sources) (aims (d .targets)) n level mask x h a
+    wire-goes mask x h a = wired-table (commonOf d) (d .sources) (aims (d .targets)) n level mask x h a
 
     pub wire-stays : (r : ℕ) → r ≡ wireRefusal n → (r ≡ 0 → ⊥) → tableOf d ≡ wireTable n level (tableOf d)
     wire-stays r e z = unwired-table (tableOf d) n r level e z
 
   -- ---- one source
   module _ (n v : ℕ) (x y : Source) (long : n < length (d .targets)) (hy : y ≡ sourceOf (d .sources) n (getD (d .targets) n 0)) where
-    pub configure-goes : (r : Sources) → x ≡ configured Message v y → Acts (only n) (lined x) (d .sources) r
-        → tableOf (record { enable = d .enable; sources = r; targets = set (d .targets) n (x .target) }) ≡ act (only n) (configured Message v) (tableOf d)
+    pub configure-goes : (r : Sources) → x ≡ configured (d .delivery) v y → Acts (only n) (lined x) (d .sources) r
+        → tableOf (record { delivery = d .delivery; enable = d .enable; sources = r; targets = set (d .targets) n (x .target); harts = d .harts }) ≡ act (only n) (configured (d .delivery) v) (tableOf d)
     unfolding tableOf
     configure-goes r hx a =
-        configured-table (d .enable) (d .sources) r (aims (d .targets)) (aims (set (d .targets) n (x .target))) n (configured Message v) x
-        (hx ∙ ap (configured Message v) hy) (λ i. put-target (d .targets) n i (x .target) long) a
+        configured-table (commonOf d) (d .sources) r (aims (d .targets)) (aims (set (d .targets) n (x .target))) n (configured (d .delivery) v) x
+        (hx ∙ ap (configured (d .delivery) v) hy) (λ i. put-at 0 (d .targets) n i (x .target) long) a
 
-    pub aim-goes : x ≡ aimed Message v y → tableOf (record { enable = d .enable; sources = d .sources; targets = set (d .targets) n (x .target) }) ≡ act (only n) (aimed Message v) (tableOf d)
+    pub aim-goes : x ≡ aimed (d .delivery) v y → tableOf (record { delivery = d .delivery; enable = d .enable; sources = d .sources; targets = set (d .targets) n (x .target); harts = d .harts }) ≡ act (only n) (aimed (d .delivery) v) (tableOf d)
     unfolding tableOf
     aim-goes hx =
-        aimed-table (d .enable) (d .sources) (aims (d .targets)) (aims (set (d .targets) n (x .target))) n v x
-        (hx ∙ ap (aimed Message v) hy) (λ i. put-target (d .targets) n i (x .target) long)
+        aimed-table (commonOf d) (d .sources) (aims (d .targets)) (aims (set (d .targets) n (x .target))) n v x
+        (hx ∙ ap (aimed (d .delivery) v) hy) (λ i. put-at 0 (d .targets) n i (x .target) long)
 
   -- ---- a write
   module _ (o v : ℕ) (g : Register) (p : g ≡ registerOf o) where
@@ -114,22 +156,30 @@ module _ (d : Domain) where
     unfolding writeRegister
     write-nothing q = written o v g p Nothing (tableOf d) _ q refl
 
-    pub write-domain : g ≡ DomainCfg → tableOf (record { enable = eqb (v / 256 % 2) 1; sources = d .sources; targets = d .targets }) ≡ writeTable o v (tableOf d)
+    pub write-domain : g ≡ DomainCfg → tableOf (record { delivery = d .delivery; enable = eqb (v / 256 % 2) 1; sources = d .sources; targets = d .targets; harts = d .harts }) ≡ writeTable o v (tableOf d)
     unfolding writeRegister enabledBy tableOf tableWith
     write-domain q = written o v g p DomainCfg (tableOf d) _ q refl
 
-    pub write-bits : (b : BitRegister) (x : Sources) → g ≡ OfBits b → Acts (concerned b v) (change Message b) (d .sources) x → tableOf (withSources d x) ≡ writeTable o v (tableOf d)
+    pub write-bits : (b : BitRegister) (x : Sources) → g ≡ OfBits b → Acts (concerned b v) (change (d .delivery) b) (d .sources) x → tableOf (withSources d x) ≡ writeTable o v (tableOf d)
     unfolding writeRegister tableOf tableWith
-    write-bits b x q a = written o v g p (OfBits b) (tableOf d) _ q (acts-table (d .enable) (d .sources) x (aims (d .targets)) (concerned b v) (change Message b) a)
+    write-bits b x q a = written o v g p (OfBits b) (tableOf d) _ q (acts-table (commonOf d) (d .sources) x (aims (d .targets)) (concerned b v) (change (d .delivery) b) a)
 
     module _ (n : ℕ) (r : Domain) where
-      pub write-source : g ≡ SourceCfg n → tableOf r ≡ act (only n) (configured Message v) (tableOf d) → tableOf r ≡ writeTable o v (tableOf d)
+      pub write-source : g ≡ SourceCfg n → tableOf r ≡ act (only n) (configured (d .delivery) v) (tableOf d) → tableOf r ≡ writeTable o v (tableOf d)
       unfolding writeRegister tableOf tableWith
       write-source q e = written o v g p (SourceCfg n) (tableOf d) _ q e
 
-      pub write-target : g ≡ Target n → tableOf r ≡ act (only n) (aimed Message v) (tableOf d) → tableOf r ≡ writeTable o v (tableOf d)
+      pub write-target : g ≡ Target n → tableOf r ≡ act (only n) (aimed (d .delivery) v) (tableOf d) → tableOf r ≡ writeTable o v (tableOf d)
       unfolding writeRegister tableOf tableWith
       write-target q e = written o v g p (Target n) (tableOf d) _ q e
+
+      pub write-hart : (k : HartRegister) → g ≡ OfHart n k → tableOf r ≡ writeHart n k v (tableOf d) → tableOf r ≡ writeTable o v (tableOf d)
+      unfolding writeRegister
+      write-hart k q e = written o v g p (OfHart n k) (tableOf d) _ q e
+
+    pub write-claim : (h : ℕ) → g ≡ ClaimI h → tableOf d ≡ writeTable o v (tableOf d)
+    unfolding writeRegister
+    write-claim h q = written o v g p (ClaimI h) (tableOf d) _ q refl
 
   -- ---- a read
   module _ (o x : ℕ) (g : Register) (p : g ≡ registerOf o) where
@@ -137,52 +187,284 @@ module _ (d : Domain) where
     unfolding readRegister
     read-nothing q e = told o x g p Nothing (tableOf d) q e
 
-    pub read-domain : g ≡ DomainCfg → x ≡ domainWord (d .enable) Message → x ≡ readTable o (tableOf d)
+    pub read-domain : g ≡ DomainCfg → x ≡ domainWord (d .enable) (d .delivery) → x ≡ readTable o (tableOf d)
     unfolding readRegister tableOf tableWith
     read-domain q e = told o x g p DomainCfg (tableOf d) q e
 
     pub read-bits : (b : BitRegister) → g ≡ OfBits b → Shows b (d .sources) x → x ≡ readTable o (tableOf d)
     unfolding readRegister tableOf Shows
-    read-bits b q h = told o x g p (OfBits b) (tableOf d) q (h (d .enable) (aims (d .targets)))
+    read-bits b q h = told o x g p (OfBits b) (tableOf d) q (h (commonOf d) (aims (d .targets)))
 
     module _ (n : ℕ) where
       pub read-source : g ≡ SourceCfg n → x ≡ numberOf (sourceOf (d .sources) n 0 .mode) → x ≡ readTable o (tableOf d)
       unfolding readRegister tableOf sourceOf
       read-source q e =
           told o x g p (SourceCfg n) (tableOf d) q
-          (e ∙ ap (λ (y : Source). numberOf (y .mode)) (row-at (d .enable) (d .sources) (d .sources) (aims (d .targets)) n (source-above o n g p q) (source-below o n g p q)))
+          (e ∙ ap (λ (y : Source). numberOf (y .mode)) (row-at (commonOf d) (d .sources) (d .sources) (aims (d .targets)) n (source-above o n g p q) (source-below o n g p q)))
 
       pub read-target : g ≡ Target n → x ≡ getD (d .targets) n 0 → x ≡ readTable o (tableOf d)
       unfolding readRegister tableOf sourceOf
       read-target q e =
           told o x g p (Target n) (tableOf d) q
-          (e ∙ ap (λ (y : Source). y .target) (row-at (d .enable) (d .sources) (d .sources) (aims (d .targets)) n (target-above o n g p q) (target-below o n g p q)))
+          (e ∙ ap (λ (y : Source). y .target) (row-at (commonOf d) (d .sources) (d .sources) (aims (d .targets)) n (target-above o n g p q) (target-below o n g p q)))
+
+    pub read-hart : (h : ℕ) (k : HartRegister) → g ≡ OfHart h k → x ≡ readHart h k (tableOf d) → x ≡ readTable o (tableOf d)
+    unfolding readRegister
+    read-hart h k q e = told o x g p (OfHart h k) (tableOf d) q e
+
+    pub read-claim : (h : ℕ) → g ≡ ClaimI h → x ≡ claimValue h (tableOf d) → x ≡ readTable o (tableOf d)
+    unfolding readRegister
+    read-claim h q e = told o x g p (ClaimI h) (tableOf d) q e
+
+  -- what a read leaves
+  module _ (o : ℕ) (g : Register) (p : g ≡ registerOf o) where
+    pub left-nothing : g ≡ Nothing → tableOf d ≡ afterRead o (tableOf d)
+    unfolding claimedBy
+    left-nothing q = stays o 0 g p Nothing (tableOf d) _ q refl
+
+    pub left-domain : g ≡ DomainCfg → tableOf d ≡ afterRead o (tableOf d)
+    unfolding claimedBy
+    left-domain q = stays o 0 g p DomainCfg (tableOf d) _ q refl
+
+    pub left-bits : (b : BitRegister) → g ≡ OfBits b → tableOf d ≡ afterRead o (tableOf d)
+    unfolding claimedBy
+    left-bits b q = stays o 0 g p (OfBits b) (tableOf d) _ q refl
+
+    pub left-source : (n : ℕ) → g ≡ SourceCfg n → tableOf d ≡ afterRead o (tableOf d)
+    unfolding claimedBy
+    left-source n q = stays o 0 g p (SourceCfg n) (tableOf d) _ q refl
+
+    pub left-target : (n : ℕ) → g ≡ Target n → tableOf d ≡ afterRead o (tableOf d)
+    unfolding claimedBy
+    left-target n q = stays o 0 g p (Target n) (tableOf d) _ q refl
+
+    pub left-hart : (h : ℕ) (k : HartRegister) → g ≡ OfHart h k → tableOf d ≡ afterRead o (tableOf d)
+    unfolding claimedBy
+    left-hart h k q = stays o 0 g p (OfHart h k) (tableOf d) _ q refl
+
+    pub left-claim : (h : ℕ) (r : Domain) → g ≡ ClaimI h → tableOf r ≡ claimed h (tableOf d) → tableOf r ≡ afterRead o (tableOf d)
+    unfolding claimedBy
+    left-claim h r q e = stays o 0 g p (ClaimI h) (tableOf d) _ q e
 
   -- ---- a forward
-  pub forward-off : d .enable ≡ false → sends (tableOf d) ≡ false
+  pub forward-off : (b : Bool) → b ≡ directOf (d .delivery) → d .enable && not b ≡ false → sends (tableOf d) ≡ false
   unfolding tableOf
-  forward-off e = none-sent (d .enable) (d .sources) (aims (d .targets)) e
+  forward-off b hb e = none-sent (commonOf d) (d .sources) (aims (d .targets)) b hb e
 
   module _ (n : ℕ) (hn : n ≡ firstWaiting (d .sources)) where
     pub forward-none : 64 ≤ n → sends (tableOf d) ≡ false
     unfolding tableOf
-    forward-none l = none-waits (d .enable) (d .sources) (aims (d .targets)) n hn l
+    forward-none l = none-waits (commonOf d) (d .sources) (aims (d .targets)) n hn l
 
-    pub forward-goes : (mask : ℕ) (x : Sources) → d .enable ≡ true → n < 64 → ((i : ℕ) → inside i ≡ true → marks mask i ≡ only n i) → Acts (marks mask) (lowered Message) (d .sources) x
+    pub forward-goes : (b : Bool) (mask : ℕ) (x : Sources) → b ≡ directOf (d .delivery) → d .enable && not b ≡ true → n < 64 → ((i : ℕ) → inside i ≡ true → marks mask i ≡ only n i) → Acts (marks mask) (lowered (d .delivery)) (d .sources) x
         → tableOf (withSources d x) ≡ forwardTable (tableOf d)
     unfolding tableOf
-    forward-goes mask x e l h a = forwarded-table (d .enable) (d .sources) (aims (d .targets)) n hn e l mask x h a
+    forward-goes b mask x hb e l h a = forwarded-table (commonOf d) (d .sources) (aims (d .targets)) n hn b hb e l mask x h a
 
-    pub forward-sends : (m : Msi) → d .enable ≡ true → n < 64 → m ≡ msiOf (getD (d .targets) n 0) → Forwarded m ≡ sentOf (tableOf d)
+    pub forward-sends : (b : Bool) (m : Msi) → b ≡ directOf (d .delivery) → d .enable && not b ≡ true → n < 64 → m ≡ msiOf (getD (d .targets) n 0) → Forwarded m ≡ sentOf (tableOf d)
     unfolding tableOf
-    forward-sends m e l hm = forwarded-sent (d .enable) (d .sources) (aims (d .targets)) n hn e l m hm
+    forward-sends b m hb e l hm = forwarded-sent (commonOf d) (d .sources) (aims (d .targets)) n hn b hb e l m hm
+
+  -- ---- harts
+  hart-there : (h : ℕ) → recordOf (getD (d .harts) h 0) ≡ tableOf d .hart h
+  unfolding tableOf tableWith
+  hart-there h = refl
+
+  mode-there : d .delivery ≡ tableOf d .delivery
+  unfolding tableOf tableWith
+  mode-there = refl
+
+  enable-there : d .enable ≡ tableOf d .enable
+  unfolding tableOf tableWith
+  enable-there = refl
+
+  -- the loop
+  pub top-first : (h th best i : ℕ) → best ≡ limitOf th → i ≡ lowest 63 1 (marks (bitAnd (d .sources .pending) (d .sources .enable)))
+      → Looked (commonOf d) (d .sources) (aims (d .targets)) h th (bitAnd (d .sources .pending) (d .sources .enable)) best i
+  top-first h th best i = looked-first (commonOf d) (d .sources) (aims (d .targets)) h th best i
+
+  module _ (h th left best i : ℕ) (p : Looked (commonOf d) (d .sources) (aims (d .targets)) h th left best i) where
+    pub top-next : (r n left′ : ℕ) → i < 64 → r ≡ betterOf h i (getD (d .targets) i 0) best → left′ ≡ putOf left i false → n ≡ lowest 63 1 (marks left′)
+        → Looked (commonOf d) (d .sources) (aims (d .targets)) h th left′ r n
+    top-next r n left′ l = looked-next (commonOf d) (d .sources) (aims (d .targets)) h th left best i p l r n left′
+
+    pub top-less : (left′ : ℕ) → i < 64 → left′ ≡ putOf left i false → left′ < left
+    top-less left′ l = looked-less (commonOf d) (d .sources) (aims (d .targets)) h th left best i p l left′
+
+    pub top-done : (r : ℕ) → 64 ≤ i → r ≡ topWord best → r ≡ topAt h th (tableOf d)
+    unfolding tableOf
+    top-done r l = looked-done (commonOf d) (d .sources) (aims (d .targets)) h th left best i p l r
+
+  module _ (b : Bool) (hb : b ≡ directOf (d .delivery)) where
+    mode-is : b ≡ directOf (tableOf d .delivery)
+    mode-is = hb ∙ ap directOf mode-there
+
+    -- registers
+    module _ (h : ℕ) (below : h < 16) where
+      there : b ≡ true → reaches h (tableOf d) ≡ true
+      there e = reach-yes (tableOf d) h b below mode-is e
+
+      not-there : b ≡ false → reaches h (tableOf d) ≡ false
+      not-there e = reach-mode (tableOf d) h b mode-is e
+
+      pub hart-written : (k : HartRegister) (v w : ℕ) (x y : Hart) → b ≡ true → length (d .harts) ≡ 16 → x ≡ recordOf (getD (d .harts) h 0) → y ≡ wroteOf k v x → w ≡ keptOf y → tableOf (harted d h w) ≡ writeHart h k v (tableOf d)
+      hart-written k v w x y e l hx q hw =
+          let hy : y ≡ wroteOf k v (recordOf (getD (d .harts) h 0)) = q ∙ ap (wroteOf k v) hx in
+          hart-put d h w y hw (rw hy (wrote-small k v (recordOf (getD (d .harts) h 0)) (record-small (getD (d .harts) h 0)))) (omega (arith, l)) ∙ wrote-is (tableOf d) h (there e) k v (recordOf (getD (d .harts) h 0)) y (hart-there h) hy
+
+      pub hart-ignored : (k : HartRegister) (v : ℕ) → b ≡ false → tableOf d ≡ writeHart h k v (tableOf d)
+      hart-ignored k v e = unreached-write (tableOf d) h (not-there e) k v
+
+      pub hart-silent : (k : HartRegister) → b ≡ false → 0 ≡ readHart h k (tableOf d)
+      hart-silent k e = unreached-read (tableOf d) h (not-there e) k
+
+      module _ (k : HartRegister) (e : b ≡ true) (x : Hart) (hx : x ≡ recordOf (getD (d .harts) h 0)) where
+        pub hart-delivery : (v : ℕ) → k ≡ IDelivery → v ≡ digit (x .delivery) → v ≡ readHart h k (tableOf d)
+        hart-delivery v q p = tells-delivery (tableOf d) h (there e) k x (hx ∙ hart-there h) v q p
+
+        pub hart-force : (v : ℕ) → k ≡ IForce → v ≡ digit (x .force) → v ≡ readHart h k (tableOf d)
+        hart-force v q p = tells-force (tableOf d) h (there e) k x (hx ∙ hart-there h) v q p
+
+        pub hart-threshold : k ≡ IThreshold → x .threshold ≡ readHart h k (tableOf d)
+        hart-threshold q = tells-threshold (tableOf d) h (there e) k x (hx ∙ hart-there h) q
+
+        pub hart-top : (v : ℕ) → k ≡ TopI → v ≡ topAt h (x .threshold) (tableOf d) → v ≡ readHart h k (tableOf d)
+        hart-top v q p = tells-top (tableOf d) h (there e) k x (hx ∙ hart-there h) v q p
+
+      -- the signal
+      module _ (own : Hart) (hx : own ≡ recordOf (getD (d .harts) h 0)) where
+        on-there : d .enable && own .delivery ≡ tableOf d .enable && own .delivery
+        on-there = ap (λ (x : Bool). x && own .delivery) enable-there
+
+        module _ (e : b && (d .enable && own .delivery) ≡ true) where
+          both : (b ≡ true) × (tableOf d .enable && own .delivery ≡ true)
+          both = let p = and-true _ _ e in (p .0, sym on-there ∙ p .1)
+
+          pub signal-forced : own .force ≡ true → true ≡ signalled h (tableOf d)
+          signal-forced f = table-forced (tableOf d) h (there (both .0)) own (hx ∙ hart-there h) (both .1) f
+
+          pub signal-top : (v : ℕ) → own .force ≡ false → v ≡ topAt h (own .threshold) (tableOf d) → not (eqb v 0) ≡ signalled h (tableOf d)
+          signal-top v f q = table-top (tableOf d) h (there (both .0)) own (hx ∙ hart-there h) (both .1) v f q
+
+        pub signal-off : b && (d .enable && own .delivery) ≡ false → false ≡ signalled h (tableOf d)
+        signal-off e = go b refl e
+          where
+            go : (x : Bool) → b ≡ x → x && (d .enable && own .delivery) ≡ false → false ≡ signalled h (tableOf d)
+            go true p q = table-off (tableOf d) h (there p) own (hx ∙ hart-there h) (sym on-there ∙ q)
+            go false p q = unreached-signal (tableOf d) h (not-there p)
+
+    -- a claim with the record x
+    module _ (h : ℕ) (x : Hart) (r : ℕ) (hr : r ≡ hartRefusal h) where
+      module _ (z : r ≡ 0) (e : b ≡ true) (v : ℕ) (hv : v ≡ topAt h (x .threshold) (tableOf d)) where
+        here : reaches h (tableOf d) ≡ true
+        here = there h (below-of h r hr z) e
+
+        pub none-table : v ≡ 0 → tableOf d ≡ claimTable h (x .threshold) (tableOf d)
+        none-table n = nothing-table (tableOf d) h here x v hv n
+
+        pub none-hart : (y : Hart) → v ≡ 0 → y ≡ unforced x → y ≡ claimHart h x (tableOf d)
+        none-hart y n = nothing-hart (tableOf d) h here x v hv n y
+
+        pub none-value : v ≡ 0 → 0 ≡ topi h (x .threshold) (tableOf d)
+        none-value n = nothing-topi (tableOf d) h here x v hv n
+
+        pub took-table : (mask : ℕ) (y : Sources) → (v ≡ 0 → ⊥) → ((i : ℕ) → inside i ≡ true → marks mask i ≡ only (v / 0x1_0000 % 1024) i)
+            → Acts (marks mask) (lowered (d .delivery)) (d .sources) y → tableOf (withSources d y) ≡ claimTable h (x .threshold) (tableOf d)
+        unfolding tableOf tableWith
+        took-table mask y n m a =
+            taken-table (tableOf d) h here x v hv n (tableOf (withSources d y))
+            (acts-table (commonOf d) (d .sources) y (aims (d .targets)) (only (v / 0x1_0000 % 1024)) (lowered (d .delivery)) (acts-ext (marks mask) (only (v / 0x1_0000 % 1024)) (lowered (d .delivery)) (d .sources) y m a)
+            ∙ ap (λ (f : Source → Source). act (only (v / 0x1_0000 % 1024)) f (tableOf d)) (handed-is (d .delivery)))
+
+        pub took-hart : (v ≡ 0 → ⊥) → x ≡ claimHart h x (tableOf d)
+        took-hart n = taken-hart (tableOf d) h here x v hv n
+
+        pub took-value : (v ≡ 0 → ⊥) → v ≡ topi h (x .threshold) (tableOf d)
+        took-value n = top-reached (tableOf d) h here x v hv
+
+      module _ (e : b ≡ false) where
+        pub mode-table : tableOf d ≡ claimTable h (x .threshold) (tableOf d)
+        mode-table = unreached-table (tableOf d) h (reach-mode (tableOf d) h b mode-is e) (x .threshold)
+
+        pub mode-hart : x ≡ claimHart h x (tableOf d)
+        mode-hart = unreached-hart (tableOf d) h (reach-mode (tableOf d) h b mode-is e) x
+
+        pub mode-value : 0 ≡ topi h (x .threshold) (tableOf d)
+        mode-value = unreached-topi (tableOf d) h (reach-mode (tableOf d) h b mode-is e) (x .threshold)
+
+  module _ (h : ℕ) (r : ℕ) (hr : r ≡ hartRefusal h) (z : r ≡ 0 → ⊥) where
+    away : reaches h (tableOf d) ≡ false
+    away = reach-refused (tableOf d) h r hr z
+
+    pub refused-table : (x : Hart) → tableOf d ≡ claimTable h (x .threshold) (tableOf d)
+    refused-table x = unreached-table (tableOf d) h away (x .threshold)
+
+    pub refused-hart : (x : Hart) → x ≡ claimHart h x (tableOf d)
+    refused-hart x = unreached-hart (tableOf d) h away x
+
+    pub refused-topi : (x : Hart) → 0 ≡ topi h (x .threshold) (tableOf d)
+    refused-topi x = unreached-topi (tableOf d) h away (x .threshold)
+
+    pub refused-claim : tableOf d ≡ claimed h (tableOf d)
+    refused-claim = unreached-claim (tableOf d) h away
+
+    pub refused-value : 0 ≡ claimValue h (tableOf d)
+    refused-value = unreached-value (tableOf d) h away
+
+    pub refused-signal : false ≡ signalled h (tableOf d)
+    refused-signal = unreached-signal (tableOf d) h away
+
+  -- a claim with the hart's own record, which is put back
+  module _ (h : ℕ) (x : Hart) (hx : x ≡ recordOf (getD (d .harts) h 0)) where
+    pub claim-put : (w : ℕ) (e : Domain) (y : Hart) → h < 16 → length (e .harts) ≡ 16 → tableOf e ≡ claimTable h (x .threshold) (tableOf d) → y ≡ claimHart h x (tableOf d) → w ≡ keptOf y → tableOf (harted e h w) ≡ claimed h (tableOf d)
+    claim-put w e y l n p q k =
+        let s : y .threshold < 256 = rw (q, hx) (claim-small (tableOf d) h (recordOf (getD (d .harts) h 0)) (record-small (getD (d .harts) h 0))) in
+        hart-put e h w y k s (omega (arith, n))
+        ∙ claimed-by (tableOf d) (tableOf e) h y (q ∙ ap (λ (z : Hart). claimHart h z (tableOf d)) (hx ∙ hart-there h)) (p ∙ ap (λ (z : Hart). claimTable h (z .threshold) (tableOf d)) (hx ∙ hart-there h))
+
+    pub claim-told : (v : ℕ) → v ≡ topi h (x .threshold) (tableOf d) → v ≡ claimValue h (tableOf d)
+    unfolding claimValue
+    claim-told v e = e ∙ ap (λ (z : Hart). topi h (z .threshold) (tableOf d)) (hx ∙ hart-there h)
+
+pub length-through : (X Y : Type 0) (f : X → Y) (l : List X) (n : ℕ) → length (map f l) ≡ n → length l ≡ n
+length-through X Y f l n e = sym (length-map l f) ∙ e
+
+-- a flag by its opposite
+pub not-on : (b : Bool) → not b ≡ true → b ≡ false
+not-on true e = sym e
+not-on false e = refl
+
+pub not-off : (b : Bool) → not b ≡ false → b ≡ true
+not-off true e = refl
+not-off false e = sym e
+
+pub fine : (h r : ℕ) → r ≡ hartRefusal h → r ≡ 0 → 0 ≡ hartRefusal h
+fine h r e z = sym z ∙ e
+
+pub ruleset tops = (top-first, top-next, top-less, top-done)
+
+pub ruleset hart-writes = (hart-written, hart-ignored)
+
+pub ruleset hart-reads = (not-on, not-off, hart-silent, hart-delivery, hart-force, hart-threshold, hart-top)
+
+pub ruleset signals = (signal-forced, signal-top, signal-off, refused-signal)
+
+pub ruleset claim-tables = (none-table, took-table, mode-table, refused-table)
+
+pub ruleset claim-harts = (none-hart, took-hart, mode-hart, refused-hart)
+
+pub ruleset claim-values = (none-value, took-value, mode-value, refused-topi)
+
+pub ruleset claims = (claim-put, claim-told, refused-claim, refused-value, fine)
 
 pub ruleset wires = (wire-goes, wire-stays)
 
 pub ruleset ones = (configure-goes, aim-goes)
 
-pub ruleset writes = (write-nothing, write-domain, write-bits, write-source, write-target)
+pub ruleset writes = (write-nothing, write-domain, write-bits, write-source, write-target, write-hart, write-claim)
 
-pub ruleset reads = (read-nothing, read-domain, read-bits, read-source, read-target)
+pub ruleset reads = (read-nothing, read-domain, read-bits, read-source, read-target, read-hart, read-claim)
+
+pub ruleset lefts = (left-nothing, left-domain, left-bits, left-source, left-target, left-hart, left-claim)
 
 pub ruleset forwards = (kept-table, kept-sent, forward-off, forward-none, forward-goes, forward-sends)

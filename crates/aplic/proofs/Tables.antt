@@ -12,25 +12,26 @@ use Rattle.word.proofs.Bits.{within, is-inside, lowest-ext, lowest-from, half-e
 use Rattle.register.specs.declared.BitRegister.{BitRegister}
 use Rattle.register.specs.declared.BitRegister.the-variants.{SetIp, SetIpNum, InClrIp, ClrIpNum, SetIe, SetIeNum, ClrIe, ClrIeNum}
 use Rattle.register.specs.declared.Register.{Register}
-use Rattle.register.specs.declared.Register.the-variants.{DomainCfg, SourceCfg, OfBits, Target, Nothing}
+use Rattle.register.specs.declared.Register.the-variants.{DomainCfg, SourceCfg, OfBits, Target, OfHart, ClaimI, Nothing}
 use Rattle.register.specs.Register.{registerOf}
+use Rattle.hart.specs.declared.Hart.{Hart}
 use Rattle.source.specs.declared.Delivery.{Delivery}
-use Rattle.source.specs.declared.Delivery.the-variants.{Message}
+use Rattle.source.specs.declared.Delivery.the-variants.{Direct, Message}
 use Rattle.source.specs.declared.Mode.{Mode}
 use Rattle.source.specs.declared.Mode.the-variants.{Inactive, Detached, Edge1, Edge0, Level1, Level0}
 use Rattle.source.specs.declared.Source.{Source}
-use Rattle.source.specs.Source.{clrip, delivered, pendingAfter, inputOf, sensed, raised, lowered, handed, allowed, configured, aimed, numberOf}
+use Rattle.source.specs.Source.{directOf, clrip, delivered, pendingAfter, inputOf, sensed, raised, lowered, handed, allowed, configured, aimed, numberOf}
 use Rattle.source.specs.Table.{Table, quiet, act}
 use Rattle.sources.specs.declared.Sources.{Sources}
-use Rattle.sources.specs.Sources.{sourceOf, tableWith, Acts, Inputs, lined, firstWaiting}
+use Rattle.sources.specs.Sources.{sourceOf, Common, tableWith, Acts, Inputs, lined, firstWaiting}
 use Rattle.aplic.specs.declared.Msi.{Msi}
 use Rattle.aplic.specs.declared.Sent.the-variants.{Idle, Forwarded}
-use Rattle.aplic.specs.Calls.{concerned, change, writeRegister, writeTable, readBits, readRegister, readTable, waiting, topOf, forwards, sends, forwardTable, sentOf, msiOf, wireTable, wireRefusal}
+use Rattle.aplic.specs.Calls.{concerned, change, writeRegister, writeTable, readBits, readRegister, readTable, claimedBy, afterRead, waiting, topOf, forwards, sends, forwardTable, sentOf, msiOf, wireTable, wireRefusal}
 use Rattle.aplic.specs.Domain.{Shows}
 
-pub same-table : (d e : Delivery) (x y : Bool) (f g : ℕ → Source) → d ≡ e → x ≡ y → ((i : ℕ) → f i ≡ g i)
-    → _≡_ {A = Table} (record { delivery = d; enable = x; row = f }) (record { delivery = e; enable = y; row = g })
-same-table d e x y f g p q r = let h : f ≡ g = fun-ext r in rw (p, q, h)
+pub same-table : (d e : Delivery) (x y : Bool) (f g : ℕ → Source) (u v : ℕ → Hart) → d ≡ e → x ≡ y → u ≡ v → ((i : ℕ) → f i ≡ g i)
+    → _≡_ {A = Table} (record { delivery = d; enable = x; row = f; hart = u }) (record { delivery = e; enable = y; row = g; hart = v })
+same-table d e x y f g u v p q k r = let h : f ≡ g = fun-ext r in rw (p, q, k, h)
 
 -- ---- sources chosen in two ways
 pub acts-ext : (sel sel′ : ℕ → Bool) (f : Source → Source) (s r : Sources) → ((i : ℕ) → inside i ≡ true → sel i ≡ sel′ i) → Acts sel f s r → Acts sel′ f s r
@@ -38,50 +39,50 @@ unfolding Acts
 acts-ext sel sel′ f s r h a i t p q = a i t p q ∙ ap (λ (b : Bool). pick b (f (sourceOf s i t)) (sourceOf s i t)) (h i (is-inside i p q))
 
 -- ---- the arms of a write to a register of bits
-module _ (s r : Sources) (v mask : ℕ) (b : BitRegister) where
-  arm : (sel : ℕ → Bool) (f : Source → Source) → ((i : ℕ) → inside i ≡ true → marks mask i ≡ sel i) → sel ≡ concerned b v → f ≡ change Message b → Acts (marks mask) f s r → Acts (concerned b v) (change Message b) s r
+module _ (s r : Sources) (d : Delivery) (v mask : ℕ) (b : BitRegister) where
+  arm : (sel : ℕ → Bool) (f : Source → Source) → ((i : ℕ) → inside i ≡ true → marks mask i ≡ sel i) → sel ≡ concerned b v → f ≡ change d b → Acts (marks mask) f s r → Acts (concerned b v) (change d b) s r
   arm sel f h p q a = rw (sym p, sym q) (acts-ext (marks mask) sel f s r h a)
 
   module _ (high : Bool) (h : (i : ℕ) → inside i ≡ true → marks mask i ≡ chosen high v i) where
-    pub arm-setip : b ≡ SetIp high → Acts (marks mask) (raised Message) s r → Acts (concerned b v) (change Message b) s r
+    pub arm-setip : b ≡ SetIp high → Acts (marks mask) (raised d) s r → Acts (concerned b v) (change d b) s r
     unfolding concerned change
-    arm-setip e a = arm (chosen high v) (raised Message) h (ap (λ (x : BitRegister). concerned x v) (sym e)) (ap (change Message) (sym e)) a
+    arm-setip e a = arm (chosen high v) (raised d) h (ap (λ (x : BitRegister). concerned x v) (sym e)) (ap (change d) (sym e)) a
 
-    pub arm-clrip : b ≡ InClrIp high → Acts (marks mask) (lowered Message) s r → Acts (concerned b v) (change Message b) s r
+    pub arm-clrip : b ≡ InClrIp high → Acts (marks mask) (lowered d) s r → Acts (concerned b v) (change d b) s r
     unfolding concerned change
-    arm-clrip e a = arm (chosen high v) (lowered Message) h (ap (λ (x : BitRegister). concerned x v) (sym e)) (ap (change Message) (sym e)) a
+    arm-clrip e a = arm (chosen high v) (lowered d) h (ap (λ (x : BitRegister). concerned x v) (sym e)) (ap (change d) (sym e)) a
 
-    pub arm-setie : b ≡ SetIe high → Acts (marks mask) (allowed true) s r → Acts (concerned b v) (change Message b) s r
+    pub arm-setie : b ≡ SetIe high → Acts (marks mask) (allowed true) s r → Acts (concerned b v) (change d b) s r
     unfolding concerned change
-    arm-setie e a = arm (chosen high v) (allowed true) h (ap (λ (x : BitRegister). concerned x v) (sym e)) (ap (change Message) (sym e)) a
+    arm-setie e a = arm (chosen high v) (allowed true) h (ap (λ (x : BitRegister). concerned x v) (sym e)) (ap (change d) (sym e)) a
 
-    pub arm-clrie : b ≡ ClrIe high → Acts (marks mask) (allowed false) s r → Acts (concerned b v) (change Message b) s r
+    pub arm-clrie : b ≡ ClrIe high → Acts (marks mask) (allowed false) s r → Acts (concerned b v) (change d b) s r
     unfolding concerned change
-    arm-clrie e a = arm (chosen high v) (allowed false) h (ap (λ (x : BitRegister). concerned x v) (sym e)) (ap (change Message) (sym e)) a
+    arm-clrie e a = arm (chosen high v) (allowed false) h (ap (λ (x : BitRegister). concerned x v) (sym e)) (ap (change d) (sym e)) a
 
   module _ (h : (i : ℕ) → inside i ≡ true → marks mask i ≡ only v i) where
-    pub arm-setipnum : b ≡ SetIpNum → Acts (marks mask) (raised Message) s r → Acts (concerned b v) (change Message b) s r
+    pub arm-setipnum : b ≡ SetIpNum → Acts (marks mask) (raised d) s r → Acts (concerned b v) (change d b) s r
     unfolding concerned change
-    arm-setipnum e a = arm (only v) (raised Message) h (ap (λ (x : BitRegister). concerned x v) (sym e)) (ap (change Message) (sym e)) a
+    arm-setipnum e a = arm (only v) (raised d) h (ap (λ (x : BitRegister). concerned x v) (sym e)) (ap (change d) (sym e)) a
 
-    pub arm-clripnum : b ≡ ClrIpNum → Acts (marks mask) (lowered Message) s r → Acts (concerned b v) (change Message b) s r
+    pub arm-clripnum : b ≡ ClrIpNum → Acts (marks mask) (lowered d) s r → Acts (concerned b v) (change d b) s r
     unfolding concerned change
-    arm-clripnum e a = arm (only v) (lowered Message) h (ap (λ (x : BitRegister). concerned x v) (sym e)) (ap (change Message) (sym e)) a
+    arm-clripnum e a = arm (only v) (lowered d) h (ap (λ (x : BitRegister). concerned x v) (sym e)) (ap (change d) (sym e)) a
 
-    pub arm-setienum : b ≡ SetIeNum → Acts (marks mask) (allowed true) s r → Acts (concerned b v) (change Message b) s r
+    pub arm-setienum : b ≡ SetIeNum → Acts (marks mask) (allowed true) s r → Acts (concerned b v) (change d b) s r
     unfolding concerned change
-    arm-setienum e a = arm (only v) (allowed true) h (ap (λ (x : BitRegister). concerned x v) (sym e)) (ap (change Message) (sym e)) a
+    arm-setienum e a = arm (only v) (allowed true) h (ap (λ (x : BitRegister). concerned x v) (sym e)) (ap (change d) (sym e)) a
 
-    pub arm-clrienum : b ≡ ClrIeNum → Acts (marks mask) (allowed false) s r → Acts (concerned b v) (change Message b) s r
+    pub arm-clrienum : b ≡ ClrIeNum → Acts (marks mask) (allowed false) s r → Acts (concerned b v) (change d b) s r
     unfolding concerned change
-    arm-clrienum e a = arm (only v) (allowed false) h (ap (λ (x : BitRegister). concerned x v) (sym e)) (ap (change Message) (sym e)) a
+    arm-clrienum e a = arm (only v) (allowed false) h (ap (λ (x : BitRegister). concerned x v) (sym e)) (ap (change d) (sym e)) a
 
 pub ruleset bit-arms = (arm-setip, arm-clrip, arm-setie, arm-clrie, arm-setipnum, arm-clripnum, arm-setienum, arm-clrienum)
 
 -- ---- what a register of bits shows
-field-row : (s : Sources) (ie : Bool) (targets : ℕ → ℕ) (p : Source → Bool) (i : ℕ) → p quiet ≡ false → inside i && p (sourceOf s i (targets i)) ≡ p (tableWith ie s targets .row i)
+field-row : (s : Sources) (co : Common) (targets : ℕ → ℕ) (p : Source → Bool) (i : ℕ) → p quiet ≡ false → inside i && p (sourceOf s i (targets i)) ≡ p (tableWith co s targets .row i)
 unfolding tableWith
-field-row s ie targets p i z = go (inside i)
+field-row s co targets p i z = go (inside i)
   where
     go : (b : Bool) → b && p (sourceOf s i (targets i)) ≡ p (pick b (sourceOf s i (targets i)) quiet)
     go true = refl
@@ -94,54 +95,54 @@ module _ (s : Sources) (b : BitRegister) (x : ℕ) where
   module _ (high : Bool) where
     pub show-pending : b ≡ SetIp high → x ≡ half high (λ i. inside i && marks (s .pending) i) → Shows b s x
     unfolding Shows readBits sourceOf
-    show-pending e h = shown (SetIp high) e (λ ie targets. h ∙ half-ext high _ _ (λ i. row ie targets i))
+    show-pending e h = shown (SetIp high) e (λ co targets. h ∙ half-ext high _ _ (λ i. row co targets i))
       where
-        row : (ie : Bool) (targets : ℕ → ℕ) (i : ℕ) → inside i && marks (s .pending) i ≡ tableWith ie s targets .row i .pending
-        row ie targets i = field-row s ie targets (λ y. y .pending) i refl
+        row : (co : Common) (targets : ℕ → ℕ) (i : ℕ) → inside i && marks (s .pending) i ≡ tableWith co s targets .row i .pending
+        row co targets i = field-row s co targets (λ y. y .pending) i refl
 
     pub show-enable : b ≡ SetIe high → x ≡ half high (λ i. inside i && marks (s .enable) i) → Shows b s x
     unfolding Shows readBits sourceOf
-    show-enable e h = shown (SetIe high) e (λ ie targets. h ∙ half-ext high _ _ (λ i. row ie targets i))
+    show-enable e h = shown (SetIe high) e (λ co targets. h ∙ half-ext high _ _ (λ i. row co targets i))
       where
-        row : (ie : Bool) (targets : ℕ → ℕ) (i : ℕ) → inside i && marks (s .enable) i ≡ tableWith ie s targets .row i .enable
-        row ie targets i = field-row s ie targets (λ y. y .enable) i refl
+        row : (co : Common) (targets : ℕ → ℕ) (i : ℕ) → inside i && marks (s .enable) i ≡ tableWith co s targets .row i .enable
+        row co targets i = field-row s co targets (λ y. y .enable) i refl
 
     pub show-inputs : (w : ℕ) → Inputs s w → b ≡ InClrIp high → x ≡ half high (λ i. inside i && marks w i) → Shows b s x
     unfolding Shows readBits Inputs
     show-inputs w k e h =
-        shown (InClrIp high) e (λ ie targets. h ∙ half-ext high _ _ (λ i. ap (λ (c : Bool). inside i && c) (k i (targets i)) ∙ field-row s ie targets inputOf i refl))
+        shown (InClrIp high) e (λ co targets. h ∙ half-ext high _ _ (λ i. ap (λ (c : Bool). inside i && c) (k i (targets i)) ∙ field-row s co targets inputOf i refl))
 
   pub show-setipnum : b ≡ SetIpNum → x ≡ 0 → Shows b s x
   unfolding Shows readBits
-  show-setipnum e h = shown SetIpNum e (λ ie targets. h)
+  show-setipnum e h = shown SetIpNum e (λ co targets. h)
 
   pub show-clripnum : b ≡ ClrIpNum → x ≡ 0 → Shows b s x
   unfolding Shows readBits
-  show-clripnum e h = shown ClrIpNum e (λ ie targets. h)
+  show-clripnum e h = shown ClrIpNum e (λ co targets. h)
 
   pub show-setienum : b ≡ SetIeNum → x ≡ 0 → Shows b s x
   unfolding Shows readBits
-  show-setienum e h = shown SetIeNum e (λ ie targets. h)
+  show-setienum e h = shown SetIeNum e (λ co targets. h)
 
   pub show-clrie : (high : Bool) → b ≡ ClrIe high → x ≡ 0 → Shows b s x
   unfolding Shows readBits
-  show-clrie high e h = shown (ClrIe high) e (λ ie targets. h)
+  show-clrie high e h = shown (ClrIe high) e (λ co targets. h)
 
   pub show-clrienum : b ≡ ClrIeNum → x ≡ 0 → Shows b s x
   unfolding Shows readBits
-  show-clrienum e h = shown ClrIeNum e (λ ie targets. h)
+  show-clrienum e h = shown ClrIeNum e (λ co targets. h)
 
 pub ruleset shows = (show-pending, show-enable, show-inputs, show-setipnum, show-clripnum, show-setienum, show-clrie, show-clrienum)
 
 -- ---- a table's rows
-module _ (ie : Bool) (s r : Sources) (targets : ℕ → ℕ) where
-  pub row-at : (n : ℕ) → 0 < n → n < 64 → sourceOf s n (targets n) ≡ tableWith ie s targets .row n
+module _ (co : Common) (s r : Sources) (targets : ℕ → ℕ) where
+  pub row-at : (n : ℕ) → 0 < n → n < 64 → sourceOf s n (targets n) ≡ tableWith co s targets .row n
   unfolding tableWith
   row-at n a b = rw (is-inside n a b)
 
-  pub acts-table : (sel : ℕ → Bool) (f : Source → Source) → Acts sel f s r → tableWith ie r targets ≡ act sel f (tableWith ie s targets)
+  pub acts-table : (sel : ℕ → Bool) (f : Source → Source) → Acts sel f s r → tableWith co r targets ≡ act sel f (tableWith co s targets)
   unfolding tableWith Acts
-  acts-table sel f a = same-table _ _ _ _ _ _ refl refl (λ i. go i (inside i) refl)
+  acts-table sel f a = same-table _ _ _ _ _ _ _ _ refl refl refl (λ i. go i (inside i) refl)
     where
       go : (i : ℕ) (b : Bool) → inside i ≡ b
           → pick b (sourceOf r i (targets i)) quiet ≡ pick (b && sel i) (f (pick b (sourceOf s i (targets i)) quiet)) (pick b (sourceOf s i (targets i)) quiet)
@@ -150,9 +151,9 @@ module _ (ie : Bool) (s r : Sources) (targets : ℕ → ℕ) where
 
   -- one source is changed, its target too
   module _ (targets′ : ℕ → ℕ) (n : ℕ) (f : Source → Source) (x : Source) (hx : x ≡ f (sourceOf s n (targets n))) (ht : (i : ℕ) → targets′ i ≡ pick (eqb i n) (x .target) (targets i)) where
-    one-table : ((i : ℕ) → 0 < i → i < 64 → sourceOf r i (targets′ i) ≡ pick (eqb i n) x (sourceOf s i (targets i))) → tableWith ie r targets′ ≡ act (only n) f (tableWith ie s targets)
+    one-table : ((i : ℕ) → 0 < i → i < 64 → sourceOf r i (targets′ i) ≡ pick (eqb i n) x (sourceOf s i (targets i))) → tableWith co r targets′ ≡ act (only n) f (tableWith co s targets)
     unfolding tableWith only
-    one-table h = same-table _ _ _ _ _ _ refl refl (λ i. go i (inside i) refl)
+    one-table h = same-table _ _ _ _ _ _ _ _ refl refl refl (λ i. go i (inside i) refl)
       where
         at : (i : ℕ) (c : Bool) → eqb i n ≡ c → pick c x (sourceOf s i (targets i)) ≡ pick c (f (sourceOf s i (targets i))) (sourceOf s i (targets i))
         at i true e = hx ∙ ap (λ (j : ℕ). f (sourceOf s j (targets j))) (sym (eqb-true i n e))
@@ -163,7 +164,7 @@ module _ (ie : Bool) (s r : Sources) (targets : ℕ → ℕ) where
         go i true k = let w = within i k in h i (w .0) (w .1) ∙ at i (eqb i n) refl
         go i false k = refl
 
-    pub configured-table : Acts (only n) (lined x) s r → tableWith ie r targets′ ≡ act (only n) f (tableWith ie s targets)
+    pub configured-table : Acts (only n) (lined x) s r → tableWith co r targets′ ≡ act (only n) f (tableWith co s targets)
     unfolding Acts only sourceOf
     configured-table a = one-table (λ i p q. a i (targets′ i) p q ∙ rw (ht i) (go i (eqb i n)))
       where
@@ -173,10 +174,10 @@ module _ (ie : Bool) (s r : Sources) (targets : ℕ → ℕ) where
         go i false = refl
 
 -- one source's target alone is changed
-pub aimed-table : (ie : Bool) (s : Sources) (targets targets′ : ℕ → ℕ) (n v : ℕ) (x : Source) → x ≡ aimed Message v (sourceOf s n (targets n)) → ((i : ℕ) → targets′ i ≡ pick (eqb i n) (x .target) (targets i))
-    → tableWith ie s targets′ ≡ act (only n) (aimed Message v) (tableWith ie s targets)
+pub aimed-table : (co : Common) (s : Sources) (targets targets′ : ℕ → ℕ) (n v : ℕ) (x : Source) → x ≡ aimed (co .delivery) v (sourceOf s n (targets n)) → ((i : ℕ) → targets′ i ≡ pick (eqb i n) (x .target) (targets i))
+    → tableWith co s targets′ ≡ act (only n) (aimed (co .delivery) v) (tableWith co s targets)
 unfolding sourceOf aimed
-aimed-table ie s targets targets′ n v x hx ht = one-table ie s s targets targets′ n (aimed Message v) x hx ht (λ i p q. rw (ht i) (go i (eqb i n) refl))
+aimed-table co s targets targets′ n v x hx ht = one-table co s s targets targets′ n (aimed (co .delivery) v) x hx ht (λ i p q. rw (ht i) (go i (eqb i n) refl))
   where
     go : (i : ℕ) (c : Bool) → eqb i n ≡ c → sourceOf s i (pick c (x .target) (targets i)) ≡ pick c x (sourceOf s i (targets i))
     go i true e = rw (eqb-true i n e, hx)
@@ -192,10 +193,14 @@ module _ (o v : ℕ) (g : Register) (p : g ≡ registerOf o) where
   unfolding readTable
   told h t q e = e ∙ ap (λ (k : Register). readRegister k t) (sym q ∙ p)
 
+  pub stays : (h : Register) (t x : Table) → g ≡ h → x ≡ claimedBy h t → x ≡ afterRead o t
+  unfolding afterRead
+  stays h t x q e = e ∙ ap (λ (k : Register). claimedBy k t) (sym q ∙ p)
+
 -- what is no source's is left alone
 pub outside : (n : ℕ) (f : Source → Source) (t : Table) → inside n ≡ false → t ≡ act (only n) f t
 unfolding only
-outside n f t h = same-table _ _ _ _ _ _ refl refl (λ i. go i (eqb i n) refl)
+outside n f t h = same-table _ _ _ _ _ _ _ _ refl refl refl (λ i. go i (eqb i n) refl)
   where
     go : (i : ℕ) (c : Bool) → eqb i n ≡ c → t .row i ≡ pick (inside i && c) (f (t .row i)) (t .row i)
     go i true e = rw (eqb-true i n e, h)
@@ -206,10 +211,10 @@ outside n f t h = same-table _ _ _ _ _ _ refl refl (λ i. go i (eqb i n) refl)
         both false = refl
 
 -- a wire
-module _ (ie : Bool) (s : Sources) (targets : ℕ → ℕ) (n : ℕ) (level : Bool) where
-  pub wired-table : (mask : ℕ) (r : Sources) → ((i : ℕ) → inside i ≡ true → marks mask i ≡ only n i) → Acts (marks mask) (sensed Message level) s r → tableWith ie r targets ≡ wireTable n level (tableWith ie s targets)
+module _ (co : Common) (s : Sources) (targets : ℕ → ℕ) (n : ℕ) (level : Bool) where
+  pub wired-table : (mask : ℕ) (r : Sources) → ((i : ℕ) → inside i ≡ true → marks mask i ≡ only n i) → Acts (marks mask) (sensed (co .delivery) level) s r → tableWith co r targets ≡ wireTable n level (tableWith co s targets)
   unfolding wireTable tableWith
-  wired-table mask r h a = acts-table ie s r targets (only n) (sensed Message level) (acts-ext (marks mask) (only n) (sensed Message level) s r h a)
+  wired-table mask r h a = acts-table co s r targets (only n) (sensed (co .delivery) level) (acts-ext (marks mask) (only n) (sensed (co .delivery) level) s r h a)
 
 refused-outside : (n r : ℕ) → r ≡ wireRefusal n → (r ≡ 0 → ⊥) → inside n ≡ false
 unfolding wireRefusal
@@ -232,42 +237,50 @@ pub kept-sent : (t : Table) → sends t ≡ false → Idle ≡ sentOf t
 unfolding sentOf
 kept-sent t e = no-is _ _ _ _ e refl
 
--- a forward clears as a write of in_clrip does
-handed-is : lowered Message ≡ handed Message
+-- a forward, and a claim, clears as a write of in_clrip does
+pub handed-is : (d : Delivery) → lowered d ≡ handed d
 unfolding lowered handed
-handed-is = fun-ext (λ s. ap (λ (p : Bool). record { mode = s .mode; wire = s .wire; pending = p; enable = s .enable; target = s .target }) (go (s .mode) (s .pending)))
+handed-is d = fun-ext (λ s. ap (λ (p : Bool). record { mode = s .mode; wire = s .wire; pending = p; enable = s .enable; target = s .target }) (go (s .mode) (s .pending)))
   where
-    go : (m : Mode) (p : Bool) → pendingAfter Message m clrip p ≡ pendingAfter Message m delivered p
+    level : (e : Delivery) (p : Bool) → pendingAfter e Level1 clrip p ≡ pendingAfter e Level1 delivered p
+    level Direct p = refl
+    level Message p = refl
+
+    go : (m : Mode) (p : Bool) → pendingAfter d m clrip p ≡ pendingAfter d m delivered p
     go Inactive p = refl
     go Detached p = refl
     go Edge1 p = refl
     go Edge0 p = refl
-    go Level1 p = refl
-    go Level0 p = refl
+    go Level1 p = level d p
+    go Level0 p = level d p
 
-module _ (ie : Bool) (s : Sources) (targets : ℕ → ℕ) where
-  pub top-is : firstWaiting s ≡ topOf (tableWith ie s targets)
+module _ (co : Common) (s : Sources) (targets : ℕ → ℕ) where
+  pub top-is : firstWaiting s ≡ topOf (tableWith co s targets)
   unfolding topOf firstWaiting sourceOf
-  top-is = lowest-ext 63 1 _ (waiting (tableWith ie s targets)) (λ i a b. ap (λ (x : Source). x .pending && x .enable) (row-at ie s s targets i (omega arith) (omega arith)))
+  top-is = lowest-ext 63 1 _ (waiting (tableWith co s targets)) (λ i a b. ap (λ (x : Source). x .pending && x .enable) (row-at co s s targets i (omega arith) (omega arith)))
 
-  pub none-sent : ie ≡ false → sends (tableWith ie s targets) ≡ false
-  unfolding sends tableWith
-  none-sent e = off (ie && true) _ (ap (λ (b : Bool). b && true) e)
-    where
-      off : (a b : Bool) → a ≡ false → a && b ≡ false
-      off true b p = absurd-of p b
-        where
-          absurd-of : true ≡ false → (b : Bool) → b ≡ false
-          absurd-of p true = p
-          absurd-of p false = refl
-      off false b p = refl
+  -- by what the code tests: the domain's enable, and not direct delivery
+  module _ (b : Bool) (hb : b ≡ directOf (co .delivery)) where
+    test-is : co .enable && not b ≡ co .enable && forwards (co .delivery)
+    test-is = ap (λ (x : Bool). co .enable && x) (ap not hb ∙ go (co .delivery))
+      where
+        go : (d : Delivery) → not (directOf d) ≡ forwards d
+        go Direct = refl
+        go Message = refl
+
+    pub none-sent : co .enable && not b ≡ false → sends (tableWith co s targets) ≡ false
+    unfolding sends tableWith
+    none-sent e = off _ _ (sym test-is ∙ e)
+      where
+        off : (x y : Bool) → x ≡ false → x && y ≡ false
+        off x y p = rw p
 
   module _ (n : ℕ) (hn : n ≡ firstWaiting s) where
     first-from : 0 < n
     unfolding firstWaiting
     first-from = omega (arith, hn, lowest-from 63 1 (λ i. marks (s .pending) i && marks (s .enable) i))
 
-    pub none-waits : 64 ≤ n → sends (tableWith ie s targets) ≡ false
+    pub none-waits : 64 ≤ n → sends (tableWith co s targets) ≡ false
     unfolding sends
     none-waits l = off
       where
@@ -275,28 +288,27 @@ module _ (ie : Bool) (s : Sources) (targets : ℕ → ℕ) where
         none true b e = e
         none false b e = refl
 
-        off : (tableWith ie s targets .enable && forwards (tableWith ie s targets .delivery)) && ltb (topOf (tableWith ie s targets)) 64 ≡ false
-        off = none (tableWith ie s targets .enable && forwards (tableWith ie s targets .delivery)) (ltb (topOf (tableWith ie s targets)) 64) (le-ltb (topOf (tableWith ie s targets)) 64 (omega (arith, hn, top-is)))
+        off : (tableWith co s targets .enable && forwards (tableWith co s targets .delivery)) && ltb (topOf (tableWith co s targets)) 64 ≡ false
+        off = none (tableWith co s targets .enable && forwards (tableWith co s targets .delivery)) (ltb (topOf (tableWith co s targets)) 64) (le-ltb (topOf (tableWith co s targets)) 64 (omega (arith, hn, top-is)))
 
-    module _ (e : ie ≡ true) (l : n < 64) where
-      sending : sends (tableWith ie s targets) ≡ true
+    module _ (b : Bool) (hb : b ≡ directOf (co .delivery)) (e : co .enable && not b ≡ true) (l : n < 64) where
+      sending : sends (tableWith co s targets) ≡ true
       unfolding sends tableWith
-      sending = both (ie && true) _ (ap (λ (b : Bool). b && true) e) (lt-ltb (topOf (tableWith ie s targets)) 64 (omega (arith, hn, top-is)))
+      sending = both _ _ (sym (test-is b hb) ∙ e) (lt-ltb (topOf (tableWith co s targets)) 64 (omega (arith, hn, top-is)))
         where
-          both : (a b : Bool) → a ≡ true → b ≡ true → a && b ≡ true
-          both true b p q = q
-          both false b p q = p
+          both : (x y : Bool) → x ≡ true → y ≡ true → x && y ≡ true
+          both x y p q = rw (p, q)
 
-      pub forwarded-table : (mask : ℕ) (r : Sources) → ((i : ℕ) → inside i ≡ true → marks mask i ≡ only n i) → Acts (marks mask) (lowered Message) s r → tableWith ie r targets ≡ forwardTable (tableWith ie s targets)
+      pub forwarded-table : (mask : ℕ) (r : Sources) → ((i : ℕ) → inside i ≡ true → marks mask i ≡ only n i) → Acts (marks mask) (lowered (co .delivery)) s r → tableWith co r targets ≡ forwardTable (tableWith co s targets)
       unfolding forwardTable tableWith
       forwarded-table mask r h a =
           yes-is _ _ _ _ sending
-          (acts-table ie s r targets (only n) (lowered Message) (acts-ext (marks mask) (only n) (lowered Message) s r h a)
-          ∙ ap (λ (f : Source → Source). act (only n) f (tableWith ie s targets)) handed-is
-          ∙ ap (λ (k : ℕ). act (only k) (handed Message) (tableWith ie s targets)) (hn ∙ top-is))
+          (acts-table co s r targets (only n) (lowered (co .delivery)) (acts-ext (marks mask) (only n) (lowered (co .delivery)) s r h a)
+          ∙ ap (λ (f : Source → Source). act (only n) f (tableWith co s targets)) (handed-is (co .delivery))
+          ∙ ap (λ (k : ℕ). act (only k) (handed (co .delivery)) (tableWith co s targets)) (hn ∙ top-is))
 
-      pub forwarded-sent : (m : Msi) → m ≡ msiOf (targets n) → Forwarded m ≡ sentOf (tableWith ie s targets)
+      pub forwarded-sent : (m : Msi) → m ≡ msiOf (targets n) → Forwarded m ≡ sentOf (tableWith co s targets)
       unfolding sentOf sourceOf
       forwarded-sent m hm =
           yes-is _ _ _ _ sending
-          (ap Forwarded (hm ∙ ap (λ (x : Source). msiOf (x .target)) (row-at ie s s targets n first-from l) ∙ ap (λ (k : ℕ). msiOf (tableWith ie s targets .row k .target)) (hn ∙ top-is)))
+          (ap Forwarded (hm ∙ ap (λ (x : Source). msiOf (x .target)) (row-at co s s targets n first-from l) ∙ ap (λ (k : ℕ). msiOf (tableWith co s targets .row k .target)) (hn ∙ top-is)))

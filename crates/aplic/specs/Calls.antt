@@ -1,4 +1,4 @@
--- What each call does to the table of separate sources, and what it answers.
+-- What each call does to the table of separate sources and harts, and what it answers.
 use Prim.Native.Nat.{ℕ, _+_, _*_, _^_}
 use mathlib.Core.Bool.{Bool, true, false, _&&_}
 use lib.Dec.{ltb}
@@ -8,13 +8,14 @@ use Rattle.word.specs.Word.{inside, half, chosen, only, digit, lowest}
 use Rattle.register.specs.declared.BitRegister.{BitRegister}
 use Rattle.register.specs.declared.BitRegister.the-variants.{SetIp, SetIpNum, InClrIp, ClrIpNum, SetIe, SetIeNum, ClrIe, ClrIeNum}
 use Rattle.register.specs.declared.Register.{Register}
-use Rattle.register.specs.declared.Register.the-variants.{DomainCfg, SourceCfg, OfBits, Target, Nothing}
+use Rattle.register.specs.declared.Register.the-variants.{DomainCfg, SourceCfg, OfBits, Target, OfHart, ClaimI, Nothing}
 use Rattle.register.specs.Register.{registerOf}
 use Rattle.source.specs.declared.Delivery.{Delivery}
 use Rattle.source.specs.declared.Delivery.the-variants.{Direct, Message}
 use Rattle.source.specs.declared.Source.{Source}
 use Rattle.source.specs.Source.{numberOf, inputOf, sensed, raised, lowered, handed, allowed, configured, aimed}
 use Rattle.source.specs.Table.{Table, act}
+use Rattle.aplic.specs.Direct.{claimed, claimValue, writeHart, readHart}
 use Rattle.aplic.specs.declared.Msi.{Msi}
 use Rattle.aplic.specs.declared.Sent.{Sent}
 use Rattle.aplic.specs.declared.Sent.the-variants.{Forwarded, Idle}
@@ -52,13 +53,15 @@ change d ClrIeNum = allowed false
 
 -- the domain's enable (IE) is bit 8 of domaincfg; its other fields are read-only: "little-endian", and the delivery mode is fixed (02)
 unfoldable pub enabledBy : ℕ → Table → Table
-enabledBy v t = record { delivery = t .delivery; enable = bit v 8; row = t .row }
+enabledBy v t = record { delivery = t .delivery; enable = bit v 8; row = t .row; hart = t .hart }
 
 unfoldable pub writeRegister : Register → ℕ → Table → Table
 writeRegister DomainCfg v t = enabledBy v t
 writeRegister (SourceCfg n) v t = act (only n) (configured (t .delivery) v) t
 writeRegister (OfBits b) v t = act (concerned b v) (change (t .delivery) b) t
 writeRegister (Target n) v t = act (only n) (aimed (t .delivery) v) t
+writeRegister (OfHart h k) v t = writeHart h k v t
+writeRegister (ClaimI h) v t = t
 writeRegister Nothing v t = t
 
 unfoldable pub writeTable : ℕ → ℕ → Table → Table
@@ -90,14 +93,25 @@ readRegister DomainCfg t = domainWord (t .enable) (t .delivery)
 readRegister (SourceCfg n) t = numberOf (t .row n .mode)
 readRegister (OfBits b) t = readBits b t
 readRegister (Target n) t = t .row n .target
+readRegister (OfHart h k) t = readHart h k t
+readRegister (ClaimI h) t = claimValue h t
 readRegister Nothing t = 0
 
 unfoldable pub readTable : ℕ → Table → ℕ
 readTable o t = readRegister (registerOf o) t
 
--- no register of a domain with message delivery changes by being read
-abbrev pub afterRead : ℕ → Table → Table
-afterRead o t = t
+-- a read of claimi is a claim; no other register changes anything by being read
+unfoldable pub claimedBy : Register → Table → Table
+claimedBy DomainCfg t = t
+claimedBy (SourceCfg n) t = t
+claimedBy (OfBits b) t = t
+claimedBy (Target n) t = t
+claimedBy (OfHart h k) t = t
+claimedBy (ClaimI h) t = claimed h t
+claimedBy Nothing t = t
+
+unfoldable pub afterRead : ℕ → Table → Table
+afterRead o t = claimedBy (registerOf o) t
 
 -- ---- a forward
 abbrev pub waiting : Table → ℕ → Bool

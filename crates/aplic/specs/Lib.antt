@@ -1,3 +1,4 @@
+pub mod Direct
 pub mod Calls
 pub mod Run
 pub mod Domain

@@ -1,23 +1,30 @@
-// One supervisor leaf domain of an APLIC with message delivery: sources 1 to 63.
+// One supervisor leaf domain of an APLIC: sources 1 to 63, message delivery or direct delivery to harts 0 to 15.
 ghost use mathlib.Core.Path.{_≡_};
 ghost use mathlib.Core.Bool.{true};
 ghost use Prim.Native.Nat.{ℕ, _<_};
+ghost use lib.ListN.{length};
+ghost use Rattle.hart.specs.Hart.{hartRefusal};
 ghost use Rattle.word.specs.Word.{only};
 ghost use lib.ListN.{getD};
 ghost use Rattle.source.specs.Source.{numberOf, configured, aimed};
 ghost use Rattle.source.specs.Table.{startOf, act};
-ghost use Rattle.source.specs.declared.Delivery.the-variants.{Message};
 ghost use Rattle.sources.specs.Sources.{sourceOf, Acts};
 ghost use Rattle.aplic.specs.Calls.{wireTable, wireRefusal, concerned, change, writeTable, readTable, afterRead, domainWord, forwardTable, sentOf, msiOf};
+ghost use Rattle.aplic.specs.Direct.{topAt, topi, claimTable, claimHart, claimed, claimValue, writeHart, readHart, signalled as signalledOf};
 ghost use Rattle.aplic.specs.Domain.{tableOf, Shows};
+use hart::Hart;
 use register::BitRegister;
+use register::HartRegister;
 use register::Register;
+use source::Delivery;
 use sources::Sources;
 
 pub struct Domain {
+    pub delivery: Delivery,
     pub enable: bool,
     pub sources: Sources,
     pub targets: [u32; 64],
+    pub harts: [u32; 16],
 }
 
 // A domain after a wire took a level, and 0 or the number of the refusal.
@@ -50,15 +57,37 @@ pub struct Forwarding {
     pub sent: Sent,
 }
 
+// A domain after a claim by a hart whose record is apart, the record, what claimi told, and 0 or the number of the refusal.
+pub struct Claimed {
+    pub domain: Domain,
+    pub hart: Hart,
+    pub value: u32,
+    pub refusal: u64,
+}
+
+// A domain after a claim, what claimi told, and 0 or the number of the refusal.
+pub struct Claim {
+    pub domain: Domain,
+    pub value: u32,
+    pub refusal: u64,
+}
+
+// A domain, whether it signals a hart, and 0 or the number of the refusal.
+pub struct Signal {
+    pub domain: Domain,
+    pub asserted: bool,
+    pub refusal: u64,
+}
+
 // A write to a register of bits.
-pub fn write_bits(s: Sources, b: BitRegister, v: u32) -> Sources
-    ensures { λ r. ⌜ Acts (concerned b v) (change Message b) s r ⌝ }
+pub fn write_bits(s: Sources, d: Delivery, b: BitRegister, v: u32) -> Sources
+    ensures { λ r. ⌜ Acts (concerned b v) (change d b) s r ⌝ }
 {
     match b {
-        BitRegister::SetIp(high) => s.raise(word::mask_of(v, high)),
-        BitRegister::SetIpNum => s.raise(word::one(v as u64)),
-        BitRegister::InClrIp(high) => s.lower(word::mask_of(v, high)),
-        BitRegister::ClrIpNum => s.lower(word::one(v as u64)),
+        BitRegister::SetIp(high) => s.raise(d, word::mask_of(v, high)),
+        BitRegister::SetIpNum => s.raise(d, word::one(v as u64)),
+        BitRegister::InClrIp(high) => s.lower(d, word::mask_of(v, high)),
+        BitRegister::ClrIpNum => s.lower(d, word::one(v as u64)),
         BitRegister::SetIe(high) => s.allow(word::mask_of(v, high)),
         BitRegister::SetIeNum => s.allow(word::one(v as u64)),
         BitRegister::ClrIe(high) => s.forbid(word::mask_of(v, high)),
@@ -81,12 +110,19 @@ pub fn read_bits(s: Sources, b: BitRegister) -> u32
     }
 }
 
-// domaincfg with message delivery, little-endian.
-pub fn domain_word(enable: bool) -> u32
-    ensures { λ r. ⌜ r ≡ domainWord enable Message ⌝ }
+// domaincfg, little-endian.
+pub fn domain_word(enable: bool, d: Delivery) -> u32
+    ensures { λ r. ⌜ r ≡ domainWord enable d ⌝ }
 {
+    let direct = source::is_direct(d);
     if enable {
+        if direct {
+            return 0x8000_0100;
+        }
         return 0x8000_0104;
+    }
+    if direct {
+        return 0x8000_0000;
     }
     0x8000_0004
 }
@@ -124,9 +160,9 @@ pub fn wire_refusal(n: u64) -> u64
 }
 
 impl Domain {
-    // A domain at reset.
-    pub fn new() -> Domain
-        ensures { λ r. ⌜ tableOf r ≡ startOf Message ⌝ }
+    // A domain at reset. Its delivery mode stays as it is.
+    pub fn new(delivery: Delivery) -> Domain
+        ensures { λ r. ⌜ tableOf r ≡ startOf delivery ⌝ }
     {
         let s = Sources {
             wired: 0,
@@ -137,9 +173,11 @@ impl Domain {
             enable: 0,
         };
         Domain {
+            delivery: delivery,
             enable: false,
             sources: s,
             targets: [0; 64],
+            harts: [0; 16],
         }
     }
 
@@ -149,7 +187,8 @@ impl Domain {
     {
         let refusal = wire_refusal(n);
         if refusal == 0 {
-            self.sources = self.sources.sense(word::one(n), level);
+            let d = self.delivery;
+            self.sources = self.sources.sense(d, word::one(n), level);
         }
         Wired {
             domain: self,
@@ -159,10 +198,11 @@ impl Domain {
 
     fn configure(mut self, n: u64, v: u32) -> Domain
         requires { ⌜ (0 < n) × (n < 64) ⌝ }
-        ensures { λ r. ⌜ tableOf r ≡ act (only n) (configured Message v) (tableOf self) ⌝ }
+        ensures { λ r. ⌜ tableOf r ≡ act (only n) (configured (self .delivery) v) (tableOf self) ⌝ }
     {
         let i = n as usize;
-        let s = self.sources.row(n, self.targets[i]).configure(v);
+        let d = self.delivery;
+        let s = self.sources.row(n, self.targets[i]).configure(d, v);
         self.sources = self.sources.with_row(n, s);
         self.targets[i] = s.target;
         self
@@ -170,11 +210,39 @@ impl Domain {
 
     fn aim(mut self, n: u64, v: u32) -> Domain
         requires { ⌜ (0 < n) × (n < 64) ⌝ }
-        ensures { λ r. ⌜ tableOf r ≡ act (only n) (aimed Message v) (tableOf self) ⌝ }
+        ensures { λ r. ⌜ tableOf r ≡ act (only n) (aimed (self .delivery) v) (tableOf self) ⌝ }
     {
         let i = n as usize;
-        let s = self.sources.row(n, self.targets[i]).aim(v);
+        let d = self.delivery;
+        let s = self.sources.row(n, self.targets[i]).aim(d, v);
         self.targets[i] = s.target;
+        self
+    }
+
+    // The top interrupt of a hart, whatever the delivery mode is: the lowest key of those that wait, one look at each.
+    fn top(self, hart: u64, threshold: u32) -> u32
+        ensures { λ r. ⌜ r ≡ topAt hart threshold (tableOf self) ⌝ }
+    {
+        let mut left = self.sources.pending & self.sources.enable;
+        let mut best = hart::limit(threshold);
+        let mut i = word::first_of(left);
+        while i < 64 {
+            best = hart::better(hart, i, self.targets[i as usize], best);
+            left = word::put(left, i, false);
+            i = word::first_of(left);
+        }
+        hart::top_word(best)
+    }
+
+    fn write_hart(mut self, h: u64, k: HartRegister, v: u32) -> Domain
+        requires { ⌜ h < 16 ⌝ }
+        ensures { λ r. ⌜ tableOf r ≡ writeHart h k v (tableOf self) ⌝ }
+    {
+        let d = self.delivery;
+        if source::is_direct(d) {
+            let i = h as usize;
+            self.harts[i] = hart::kept(hart::wrote(hart::record_of(self.harts[i]), k, v));
+        }
         self
     }
 
@@ -190,10 +258,13 @@ impl Domain {
             }
             Register::SourceCfg(n) => self.configure(n, v),
             Register::OfBits(b) => {
-                self.sources = write_bits(self.sources, b, v);
+                let d = self.delivery;
+                self.sources = write_bits(self.sources, d, b, v);
                 self
             }
             Register::Target(n) => self.aim(n, v),
+            Register::OfHart(h, k) => self.write_hart(h, k, v),
+            Register::ClaimI(_) => self,
             Register::Nothing => self,
         }
     }
@@ -205,16 +276,123 @@ impl Domain {
         self.targets[n as usize]
     }
 
-    fn value(self, offset: u64) -> u32
-        ensures { λ r. ⌜ r ≡ readTable offset (tableOf self) ⌝ }
+    fn hart_value(self, h: u64, k: HartRegister) -> u32
+        requires { ⌜ h < 16 ⌝ }
+        ensures { λ r. ⌜ r ≡ readHart h k (tableOf self) ⌝ }
     {
-        let g = register::register_at(offset);
-        match g {
-            Register::DomainCfg => domain_word(self.enable),
-            Register::SourceCfg(n) => mode_number(self.sources, n),
-            Register::OfBits(b) => read_bits(self.sources, b),
-            Register::Target(n) => self.target(n),
-            Register::Nothing => 0,
+        let d = self.delivery;
+        if !source::is_direct(d) {
+            return 0;
+        }
+        let x = hart::record_of(self.harts[h as usize]);
+        match k {
+            HartRegister::IDelivery => hart::flag(x.delivery),
+            HartRegister::IForce => hart::flag(x.force),
+            HartRegister::IThreshold => x.threshold,
+            HartRegister::TopI => self.top(h, x.threshold),
+        }
+    }
+
+    // A claim by a hart whose record is x.
+    pub fn claim_with(mut self, hart: u64, x: Hart) -> Claimed
+        ensures { λ r. ⌜ (tableOf (r .domain) ≡ claimTable hart (x .threshold) (tableOf self)) × (r .hart ≡ claimHart hart x (tableOf self)) × (r .value ≡ topi hart (x .threshold) (tableOf self)) × (r .refusal ≡ hartRefusal hart) × (length (r .domain .harts) ≡ 16) ⌝ }
+    {
+        let d = self.delivery;
+        let refusal = hart::refusal(hart);
+        if refusal == 0 {
+            if source::is_direct(d) {
+                let value = self.top(hart, x.threshold);
+                if value == 0 {
+                    return Claimed {
+                        domain: self,
+                        hart: hart::unforced(x),
+                        value: 0,
+                        refusal: 0,
+                    };
+                }
+                self.sources = self.sources
+                    .lower(d, word::one((value / 0x1_0000 % 1024) as u64));
+                return Claimed {
+                    domain: self,
+                    hart: x,
+                    value: value,
+                    refusal: 0,
+                };
+            }
+        }
+        Claimed {
+            domain: self,
+            hart: x,
+            value: 0,
+            refusal: refusal,
+        }
+    }
+
+    fn claim_at(mut self, h: u64) -> Reading
+        requires { ⌜ h < 16 ⌝ }
+        ensures { λ r. ⌜ (tableOf (r .domain) ≡ claimed h (tableOf self)) × (r .value ≡ claimValue h (tableOf self)) ⌝ }
+    {
+        let i = h as usize;
+        let x = hart::record_of(self.harts[i]);
+        let c = self.claim_with(h, x);
+        let mut d = c.domain;
+        let y = c.hart;
+        d.harts[i] = hart::kept(y);
+        Reading {
+            domain: d,
+            value: c.value,
+        }
+    }
+
+    // A hart claims its top interrupt, as by a read of its claimi.
+    pub fn claim(mut self, hart: u64) -> Claim
+        ensures { λ r. ⌜ (tableOf (r .domain) ≡ claimed hart (tableOf self)) × (r .value ≡ claimValue hart (tableOf self)) × (r .refusal ≡ hartRefusal hart) ⌝ }
+    {
+        let refusal = hart::refusal(hart);
+        if refusal == 0 {
+            let c = self.claim_at(hart);
+            let d = c.domain;
+            return Claim {
+                domain: d,
+                value: c.value,
+                refusal: 0,
+            };
+        }
+        Claim {
+            domain: self,
+            value: 0,
+            refusal: refusal,
+        }
+    }
+
+    fn is_signalled(self, h: u64) -> bool
+        requires { ⌜ h < 16 ⌝ }
+        ensures { λ r. ⌜ r ≡ signalledOf h (tableOf self) ⌝ }
+    {
+        let d = self.delivery;
+        let x = hart::record_of(self.harts[h as usize]);
+        if source::is_direct(d) & (self.enable & x.delivery) {
+            if x.force {
+                return true;
+            }
+            return self.top(h, x.threshold) != 0;
+        }
+        false
+    }
+
+    // Whether a hart is signalled.
+    pub fn signal(mut self, hart: u64) -> Signal
+        ensures { λ r. ⌜ (tableOf (r .domain) ≡ tableOf self) × (r .asserted ≡ signalledOf hart (tableOf self)) × (r .refusal ≡ hartRefusal hart) ⌝ }
+    {
+        let refusal = hart::refusal(hart);
+        let mut asserted = false;
+        if refusal == 0 {
+            asserted = self.is_signalled(hart);
+        }
+        Signal {
+            domain: self,
+            asserted: asserted,
+            refusal: refusal,
         }
     }
 
@@ -222,22 +400,46 @@ impl Domain {
     pub fn read(mut self, offset: u64) -> Reading
         ensures { λ r. ⌜ (tableOf (r .domain) ≡ afterRead offset (tableOf self)) × (r .value ≡ readTable offset (tableOf self)) ⌝ }
     {
-        let value = self.value(offset);
+        let g = register::register_at(offset);
+        let mut value: u32 = 0;
+        match g {
+            Register::DomainCfg => {
+                let d = self.delivery;
+                value = domain_word(self.enable, d);
+            }
+            Register::SourceCfg(n) => {
+                value = mode_number(self.sources, n);
+            }
+            Register::OfBits(b) => {
+                value = read_bits(self.sources, b);
+            }
+            Register::Target(n) => {
+                value = self.target(n);
+            }
+            Register::OfHart(h, k) => {
+                value = self.hart_value(h, k);
+            }
+            Register::ClaimI(h) => {
+                return self.claim_at(h);
+            }
+            Register::Nothing => {}
+        }
         Reading {
             domain: self,
             value: value,
         }
     }
 
-    // The lowest-numbered source that is pending and enabled is handed out, while the domain's enable is set.
+    // The lowest-numbered source that is pending and enabled is handed out, in message delivery, while the domain's enable is set.
     pub fn forward(mut self) -> Forwarding
         ensures { λ r. ⌜ (tableOf (r .domain) ≡ forwardTable (tableOf self)) × (r .sent ≡ sentOf (tableOf self)) ⌝ }
     {
+        let d = self.delivery;
         let n = self.sources.first();
-        if self.enable {
+        if self.enable & !source::is_direct(d) {
             if n < 64 {
                 let target = self.targets[n as usize];
-                self.sources = self.sources.lower(word::one(n));
+                self.sources = self.sources.lower(d, word::one(n));
                 return Forwarding {
                     domain: self,
                     sent: Sent::Forwarded(msi_of(target)),

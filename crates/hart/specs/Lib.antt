@@ -1,2 +1,2 @@
 pub mod Hart
-pub mod Keys
+pub mod Kept

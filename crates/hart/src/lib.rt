@@ -1,15 +1,32 @@
 // A hart's delivery record, and the keys by which its top interrupt is found.
 ghost use mathlib.Core.Path.{_≡_};
-ghost use Prim.Native.Nat.{_<_};
+ghost use Prim.Native.Nat.{_<_, _≤_};
 ghost use Rattle.word.specs.Word.{digit};
 ghost use Rattle.hart.specs.Hart.{wroteOf, unforced as unforcedOf, topWord, hartRefusal};
-ghost use Rattle.hart.specs.Keys.{limitOf, betterOf};
+ghost use Rattle.hart.specs.Kept.{recordOf, keptOf, limitOf, betterOf};
 use register::HartRegister;
 
 pub struct Hart {
     pub delivery: bool,
     pub force: bool,
     pub threshold: u32,
+}
+
+// A record as it is kept: bit 0 delivery, bit 1 force, bits 15:8 threshold.
+pub fn record_of(w: u32) -> Hart
+    ensures { λ r. ⌜ r ≡ recordOf w ⌝ }
+{
+    Hart {
+        delivery: w % 2 == 1,
+        force: w / 2 % 2 == 1,
+        threshold: w / 256 % 256,
+    }
+}
+
+pub fn kept(x: Hart) -> u32
+    ensures { λ r. ⌜ r ≡ keptOf x ⌝ }
+{
+    flag(x.delivery) + flag(x.force) * 2 + x.threshold % 256 * 256
 }
 
 // A record after a write of one of its registers.
@@ -49,7 +66,7 @@ pub fn unforced(x: Hart) -> Hart
 
 // A flag as a register tells it.
 pub fn flag(on: bool) -> u32
-    ensures { λ r. ⌜ r ≡ digit on ⌝ }
+    ensures { λ r. ⌜ (r ≡ digit on) × (r ≤ 1) ⌝ }
 {
     if on {
         return 1;

@@ -228,7 +228,7 @@ trailing-lowest (suc n) k x =
     go _ one e t = rw e (omega arith)
 
 -- ---- digits 1 to 63
-and-true : (a b : Bool) → a && b ≡ true → (a ≡ true) × (b ≡ true)
+pub and-true : (a b : Bool) → a && b ≡ true → (a ≡ true) × (b ≡ true)
 and-true true b e = (refl, e)
 and-true false b e = (e, cc)
 

@@ -11,131 +11,131 @@ use Rattle.sources.proofs.Sources.raise.Reads as raise-reads
 use Rattle.word.proofs.mask_of.Reads as mask-of-reads
 use Rattle.word.proofs.one.Reads as one-reads
 
--- src/lib.rt:58:28
+-- src/lib.rt:87:28
 enum-known-b : tie.Need-enum-known-b
 enum-known-b c = search needs
 
--- src/lib.rt:58:45
+-- src/lib.rt:87:48
 mask-of-requires : tie.Need-mask-of-requires
 mask-of-requires c κs = search needs
 
--- src/lib.rt:58:37
+-- src/lib.rt:87:37
 raise-requires : tie.Need-raise-requires
 raise-requires c κs = search needs
 
--- src/lib.rt:59:52
+-- src/lib.rt:88:55
 enum-told : tie.Need-enum-told
 enum-told c = search needs
 
--- src/lib.rt:59:42
+-- src/lib.rt:88:45
 one-requires : tie.Need-one-requires
 one-requires c κs = search needs
 
--- src/lib.rt:59:34
+-- src/lib.rt:88:34
 raise-requires-2 : tie.Need-raise-requires-2
 raise-requires-2 c κs = search needs
 
--- src/lib.rt:60:30
+-- src/lib.rt:89:30
 enum-known-b-2 : tie.Need-enum-known-b-2
 enum-known-b-2 c = search needs
 
--- src/lib.rt:60:47
+-- src/lib.rt:89:50
 mask-of-requires-2 : tie.Need-mask-of-requires-2
 mask-of-requires-2 c κs = search needs
 
--- src/lib.rt:60:39
+-- src/lib.rt:89:39
 lower-requires : tie.Need-lower-requires
 lower-requires c κs = search needs
 
--- src/lib.rt:61:52
+-- src/lib.rt:90:55
 enum-told-2 : tie.Need-enum-told-2
 enum-told-2 c = search needs
 
--- src/lib.rt:61:42
+-- src/lib.rt:90:45
 one-requires-2 : tie.Need-one-requires-2
 one-requires-2 c κs = search needs
 
--- src/lib.rt:61:34
+-- src/lib.rt:90:34
 lower-requires-2 : tie.Need-lower-requires-2
 lower-requires-2 c κs = search needs
 
--- src/lib.rt:62:28
+-- src/lib.rt:91:28
 enum-known-b-3 : tie.Need-enum-known-b-3
 enum-known-b-3 c = search needs
 
--- src/lib.rt:62:45
+-- src/lib.rt:91:45
 mask-of-requires-3 : tie.Need-mask-of-requires-3
 mask-of-requires-3 c κs = search needs
 
--- src/lib.rt:62:37
+-- src/lib.rt:91:37
 allow-requires : tie.Need-allow-requires
 allow-requires c κs = search needs
 
--- src/lib.rt:63:52
+-- src/lib.rt:92:52
 enum-told-3 : tie.Need-enum-told-3
 enum-told-3 c = search needs
 
--- src/lib.rt:63:42
+-- src/lib.rt:92:42
 one-requires-3 : tie.Need-one-requires-3
 one-requires-3 c κs = search needs
 
--- src/lib.rt:63:34
+-- src/lib.rt:92:34
 allow-requires-2 : tie.Need-allow-requires-2
 allow-requires-2 c κs = search needs
 
--- src/lib.rt:64:28
+-- src/lib.rt:93:28
 enum-known-b-4 : tie.Need-enum-known-b-4
 enum-known-b-4 c = search needs
 
--- src/lib.rt:64:46
+-- src/lib.rt:93:46
 mask-of-requires-4 : tie.Need-mask-of-requires-4
 mask-of-requires-4 c κs = search needs
 
--- src/lib.rt:64:37
+-- src/lib.rt:93:37
 forbid-requires : tie.Need-forbid-requires
 forbid-requires c κs = search needs
 
--- src/lib.rt:65:53
+-- src/lib.rt:94:53
 enum-told-4 : tie.Need-enum-told-4
 enum-told-4 c = search needs
 
--- src/lib.rt:65:43
+-- src/lib.rt:94:43
 one-requires-4 : tie.Need-one-requires-4
 one-requires-4 c κs = search needs
 
--- src/lib.rt:65:34
+-- src/lib.rt:94:34
 forbid-requires-2 : tie.Need-forbid-requires-2
 forbid-requires-2 c κs = search needs
 
--- src/lib.rt:54:1
+-- src/lib.rt:83:1
 returns : tie.Need-returns
 returns c = search (bit-arms, needs)
 
--- src/lib.rt:54:1
+-- src/lib.rt:83:1
 returns-2 : tie.Need-returns-2
 returns-2 c = search (bit-arms, needs)
 
--- src/lib.rt:54:1
+-- src/lib.rt:83:1
 returns-3 : tie.Need-returns-3
 returns-3 c = search (bit-arms, needs)
 
--- src/lib.rt:54:1
+-- src/lib.rt:83:1
 returns-4 : tie.Need-returns-4
 returns-4 c = search (bit-arms, needs)
 
--- src/lib.rt:54:1
+-- src/lib.rt:83:1
 returns-5 : tie.Need-returns-5
 returns-5 c = search (bit-arms, needs)
 
--- src/lib.rt:54:1
+-- src/lib.rt:83:1
 returns-6 : tie.Need-returns-6
 returns-6 c = search (bit-arms, needs)
 
--- src/lib.rt:54:1
+-- src/lib.rt:83:1
 returns-7 : tie.Need-returns-7
 returns-7 c = search (bit-arms, needs)
 
--- src/lib.rt:54:1
+-- src/lib.rt:83:1
 returns-8 : tie.Need-returns-8
 returns-8 c = search (bit-arms, needs)
 

@@ -1,5 +1,5 @@
 use Rattle.memory.proofs.Choices.{picks}
-use Rattle.hart.specs.Keys.{limitOf}
+use Rattle.hart.specs.Kept.{limitOf}
 use borrow.Author.Needs.{needs}
 use Rattle.hart.proofs.limit.Statement.{statement}
 use Rattle.hart.proofs.limit.Tie as tie

@@ -5,7 +5,7 @@ use Rattle.aplic.proofs.Domain.new.Tie as tie
 use Rattle.aplic.proofs.Domain.new.Reads as reads
 use Rattle.aplic.proofs.Domain.new.Lts as lts
 
--- src/lib.rt:119:5
+-- src/lib.rt:164:5
 returns : tie.Need-returns
 returns c = search (started, needs)
 

@@ -8,23 +8,23 @@ use Rattle.aplic.proofs.wire_refusal.Reads as wire-refusal-reads
 use Rattle.sources.proofs.Sources.sense.Reads as sense-reads
 use Rattle.word.proofs.one.Reads as one-reads
 
--- src/lib.rt:141:13
+-- src/lib.rt:194:13
 wire-refusal-requires : tie.Need-wire-refusal-requires
 wire-refusal-requires c κs = search needs
 
--- src/lib.rt:143:47
+-- src/lib.rt:197:50
 one-requires : tie.Need-one-requires
 one-requires c κs = search needs
 
--- src/lib.rt:143:13
+-- src/lib.rt:197:13
 sense-requires : tie.Need-sense-requires
 sense-requires c κs = search needs
 
--- src/lib.rt:138:5
+-- src/lib.rt:191:5
 returns : tie.Need-returns
 returns c = search (wires, needs)
 
--- src/lib.rt:138:5
+-- src/lib.rt:191:5
 returns-2 : tie.Need-returns-2
 returns-2 c = search (wires, needs)
 
