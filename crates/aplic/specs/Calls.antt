@@ -1,6 +1,6 @@
 -- What each call does to the table of separate sources and harts, and what it answers.
 use Prim.Native.Nat.{ℕ, _+_, _*_, _^_}
-use mathlib.Core.Bool.{Bool, true, false, _&&_}
+use mathlib.Core.Bool.{Bool, true, false, not, _&&_}
 use lib.Dec.{ltb}
 use Rattle.memory.specs.Bits.{bit, bits}
 use Rattle.memory.specs.Choice.{pick}
@@ -13,7 +13,7 @@ use Rattle.register.specs.Register.{registerOf}
 use Rattle.source.specs.declared.Delivery.{Delivery}
 use Rattle.source.specs.declared.Delivery.the-variants.{Direct, Message}
 use Rattle.source.specs.declared.Source.{Source}
-use Rattle.source.specs.Source.{numberOf, inputOf, sensed, raised, lowered, handed, allowed, configured, aimed}
+use Rattle.source.specs.Source.{directOf, numberOf, inputOf, sensed, raised, lowered, handed, allowed, configured, aimed}
 use Rattle.source.specs.Table.{Table, act}
 use Rattle.aplic.specs.Direct.{claimed, claimValue, writeHart, readHart}
 use Rattle.aplic.specs.declared.Msi.{Msi}
@@ -67,6 +67,16 @@ writeRegister Nothing v t = t
 unfoldable pub writeTable : ℕ → ℕ → Table → Table
 writeTable o v t = writeRegister (registerOf o) v t
 
+-- a write that is ignored, whatever its value is
+unfoldable pub ignores : Delivery → Register → Bool
+ignores d DomainCfg = false
+ignores d (SourceCfg n) = false
+ignores d (OfBits b) = false
+ignores d (Target n) = false
+ignores d (OfHart h k) = not (directOf d)
+ignores d (ClaimI h) = true
+ignores d Nothing = true
+
 -- ---- a read
 -- DM: 0 direct, 1 message
 abbrev pub deliveryNumber : Delivery → ℕ
@@ -109,6 +119,16 @@ claimedBy (Target n) t = t
 claimedBy (OfHart h k) t = t
 claimedBy (ClaimI h) t = claimed h t
 claimedBy Nothing t = t
+
+-- a read that is a claim
+unfoldable pub claims : Delivery → Register → Bool
+claims d DomainCfg = false
+claims d (SourceCfg n) = false
+claims d (OfBits b) = false
+claims d (Target n) = false
+claims d (OfHart h k) = false
+claims d (ClaimI h) = directOf d
+claims d Nothing = false
 
 unfoldable pub afterRead : ℕ → Table → Table
 afterRead o t = claimedBy (registerOf o) t
