@@ -1,5 +1,6 @@
 -- The domain's face, by the tests that the code makes. Assumes nothing.
 use Prim.Native.Nat.{ℕ, zero, suc, _<_, _≤_}
+use mathlib.Core.Bool.{Bool}
 use mathlib.Core.List.{List}
 use mathlib.Core.Path.{_≡_, refl, sym, ap, _∙_}
 use lib.ListN.{length, set}
@@ -7,16 +8,26 @@ use borrow.Author.Tests.{lt-ltb, le-ltb}
 use Rattle.aplic.specs.declared.Msi.{Msi}
 use Rattle.aplic.specs.declared.Sent.{Sent}
 use Rattle.aplic.specs.declared.Sent.the-variants.{Idle, Forwarded}
-use Rattle.capi.specs.Wired.{domainStatus, underStatus, withSent}
+use Rattle.word.specs.Word.{digit}
+use Rattle.capi.specs.Wired.{domainStatus, roomStatus, underStatus, withSent}
 
 module _ (state : List ℕ) where
-  pub state-short : (t : ℕ) → length state < 71 → 1 ≡ domainStatus state t
+  pub state-short : (t : ℕ) → length state < 87 → 1 ≡ domainStatus state t
   unfolding domainStatus
-  state-short t h = simp (lt-ltb (length state) 71 h)
+  state-short t h = simp (lt-ltb (length state) 87 h)
 
-  pub state-long : (r t : ℕ) → 71 ≤ length state → r ≡ t → r ≡ domainStatus state t
+  pub state-long : (r t : ℕ) → 87 ≤ length state → r ≡ t → r ≡ domainStatus state t
   unfolding domainStatus
-  state-long r t h e = simp (le-ltb (length state) 71 h) e
+  state-long r t h e = simp (le-ltb (length state) 87 h) e
+
+module _ (n : ℕ) (out : List ℕ) where
+  pub room-short : (t : ℕ) → length out < n → 1 ≡ roomStatus n out t
+  unfolding roomStatus
+  room-short t h = simp (lt-ltb (length out) n h)
+
+  pub room-long : (r t : ℕ) → n ≤ length out → r ≡ t → r ≡ roomStatus n out t
+  unfolding roomStatus
+  room-long r t h e = simp (le-ltb (length out) n h) e
 
 module _ {A : Type 0} (before after : A) where
   pub left-short : before ≡ underStatus 1 before after
@@ -56,6 +67,12 @@ sent-told out x s t e p = left-done out (withSent out t) x (e ∙ ap (withSent o
 
 pub value-told : (out : List ℕ) (x y : ℕ) → x ≡ y → set out 0 x ≡ underStatus 0 out (set out 0 y)
 value-told out x y p = left-done out (set out 0 y) (set out 0 x) (ap (set out 0) p)
+
+pub value-by : (out : List ℕ) (r x y : ℕ) → r ≡ 0 → x ≡ y → set out 0 x ≡ underStatus r out (set out 0 y)
+value-by out r x y z p = left-by out (set out 0 y) r (set out 0 x) z (ap (set out 0) p)
+
+pub flag-by : (out : List ℕ) (r x : ℕ) (a b : Bool) → r ≡ 0 → x ≡ digit a → a ≡ b → set out 0 x ≡ underStatus r out (set out 0 (digit b))
+flag-by out r x a b z p q = value-by out r x (digit b) z (p ∙ ap digit q)
 
 pub idle-kept : {A : Type 0} (x y : A) (s t : Sent) → s ≡ t → (s ≡ Idle → x ≡ y) → t ≡ Idle → x ≡ y
 idle-kept x y s t e f h = f (e ∙ h)

@@ -1,4 +1,4 @@
--- The domain for C: 71 lent words, and numbers for what its calls answer. Nothing of a call's meaning stands here.
+-- The domain for C: 87 lent words, and numbers for what its calls answer. Nothing of a call's meaning stands here.
 use Prim.Native.Nat.{ℕ, zero, suc}
 use mathlib.Core.List.{List}
 use lib.Dec.{ltb}
@@ -8,9 +8,13 @@ use Rattle.aplic.specs.declared.Sent.{Sent}
 use Rattle.aplic.specs.declared.Sent.the-variants.{Idle, Forwarded}
 use Rattle.capi.specs.Face.{status}
 
--- the status of a call: 1 where the state has fewer than 71 words, else what the call itself tells
+-- the status of a call: 1 where the state has fewer than 87 words, else what the call itself tells
 unfoldable pub domainStatus : List ℕ → ℕ → ℕ
-domainStatus state told = pick (ltb (length state) 71) 1 told
+domainStatus state told = pick (ltb (length state) 87) 1 told
+
+-- 1 where `out` has fewer than n words, else what the call itself tells
+unfoldable pub roomStatus : ℕ → List ℕ → ℕ → ℕ
+roomStatus n out told = pick (ltb (length out) n) 1 told
 
 -- what a call leaves: under status 0 what it does, else what was there
 unfoldable pub underStatus : {A : Type 0} → ℕ → A → A → A

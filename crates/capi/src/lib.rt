@@ -7,7 +7,7 @@ use iommu::DeviceRequest;
 use iommu::Settings;
 ghost use mathlib.Core.Path.{_≡_};
 ghost use Prim.Native.Nat.{_≤_, _+_};
-ghost use mathlib.Core.Bool.{not};
+ghost use mathlib.Core.Bool.{true, false, not};
 ghost use lib.Dec.{eqb};
 ghost use lib.ListN.{length as lengthOf, drop, set};
 ghost use Rattle.capi.specs.Face.{stageOf, withAnswer, withPairs, withReport, chosenOf, processOf, requestFace, afterFace, status, fitting};
@@ -15,11 +15,13 @@ ghost use Rattle.capi.specs.Words.{spanOf, wordIn, pairIn, onesIn};
 ghost use Rattle.iommu.specs.Bounds.{Reportable};
 ghost use Rattle.iommu.specs.Files.{takeOf, afterTakeOf, reportOf};
 ghost use Rattle.register.specs.Register.{registerOf};
-ghost use Rattle.register.specs.declared.Register.the-variants.{Nothing};
-ghost use Rattle.aplic.specs.Calls.{wireTable, wireRefusal, writeTable, readTable, forwardTable, sentOf};
+ghost use Rattle.word.specs.Word.{digit};
+ghost use Rattle.hart.specs.Hart.{hartRefusal};
+ghost use Rattle.aplic.specs.Direct.{claimed, claimValue, signalled};
+ghost use Rattle.aplic.specs.Calls.{wireTable, wireRefusal, ignores, writeTable, claims, readTable, afterRead, forwardTable, sentOf};
 ghost use Rattle.aplic.specs.declared.Sent.the-variants.{Idle};
-ghost use Rattle.aplic_state.specs.State.{tableIn};
-ghost use Rattle.capi.specs.Wired.{domainStatus, underStatus, withSent};
+ghost use Rattle.aplic_state.specs.State.{deliveryIn, tableIn};
+ghost use Rattle.capi.specs.Wired.{domainStatus, roomStatus, underStatus, withSent};
 
 // An access that a number names.
 pub enum Chosen {
@@ -253,15 +255,15 @@ pub extern "C" fn yasmurekh_report(start: u64, window: &[u8], file: u64, out: &m
     0
 }
 
-// A wire of a domain takes a level: 0 low, any other number high. Status 0, the refusal's number, or 1: `state` has fewer than 71 words; unless it is 0 nothing changed.
+// A wire of a domain takes a level: 0 low, any other number high. Status 0, the refusal's number, or 1: `state` has fewer than 87 words; unless it is 0 nothing changed.
 #[no_mangle]
 pub extern "C" fn yasmurekh_aplic_wire(state: &mut [u64], source: u64, level: u64) -> u64
     ensures told { λ r. ⌜ r ≡ domainStatus (now (state .entry)) (wireRefusal source) ⌝ }
     ensures table { λ r. ⌜ tableIn (now (state .exit)) ≡ underStatus r (tableIn (now (state .entry))) (wireTable source (not (eqb level 0)) (tableIn (now (state .entry)))) ⌝ }
-    ensures beyond { λ _. ⌜ drop 71 (now (state .exit)) ≡ drop 71 (now (state .entry)) ⌝ }
+    ensures beyond { λ _. ⌜ drop 87 (now (state .exit)) ≡ drop 87 (now (state .entry)) ⌝ }
     ensures refused { λ r. ⌜ ((r ≡ 0 → ⊥) → now (state .exit) ≡ now (state .entry)) ⌝ }
 {
-    if state.len() < 71 {
+    if state.len() < 87 {
         return 1;
     }
     let refusal = aplic::wire_refusal(source);
@@ -276,11 +278,11 @@ pub extern "C" fn yasmurekh_aplic_wire(state: &mut [u64], source: u64, level: u6
 pub extern "C" fn yasmurekh_aplic_write(state: &mut [u64], offset: u64, value: u32) -> u64
     ensures told { λ r. ⌜ r ≡ domainStatus (now (state .entry)) 0 ⌝ }
     ensures table { λ r. ⌜ tableIn (now (state .exit)) ≡ underStatus r (tableIn (now (state .entry))) (writeTable offset value (tableIn (now (state .entry)))) ⌝ }
-    ensures beyond { λ _. ⌜ drop 71 (now (state .exit)) ≡ drop 71 (now (state .entry)) ⌝ }
+    ensures beyond { λ _. ⌜ drop 87 (now (state .exit)) ≡ drop 87 (now (state .entry)) ⌝ }
     ensures refused { λ r. ⌜ ((r ≡ 0 → ⊥) → now (state .exit) ≡ now (state .entry)) ⌝ }
-    ensures ignored { λ _. ⌜ (registerOf offset ≡ Nothing → now (state .exit) ≡ now (state .entry)) ⌝ }
+    ensures ignored { λ _. ⌜ (ignores (deliveryIn (now (state .entry))) (registerOf offset) ≡ true → now (state .exit) ≡ now (state .entry)) ⌝ }
 {
-    if state.len() < 71 {
+    if state.len() < 87 {
         return 1;
     }
     aplic_state::write(state, offset, value);
@@ -292,16 +294,63 @@ pub extern "C" fn yasmurekh_aplic_write(state: &mut [u64], offset: u64, value: u
 pub extern "C" fn yasmurekh_aplic_read(state: &mut [u64], offset: u64, out: &mut [u64]) -> u64
     ensures told { λ r. ⌜ r ≡ domainStatus (now (state .entry)) (status 1 (now (out .entry))) ⌝ }
     ensures answer { λ r. ⌜ now (out .exit) ≡ underStatus r (now (out .entry)) (set (now (out .entry)) 0 (readTable offset (tableIn (now (state .entry))))) ⌝ }
-    ensures words { λ _. ⌜ now (state .exit) ≡ now (state .entry) ⌝ }
+    ensures table { λ r. ⌜ tableIn (now (state .exit)) ≡ underStatus r (tableIn (now (state .entry))) (afterRead offset (tableIn (now (state .entry)))) ⌝ }
+    ensures beyond { λ _. ⌜ drop 87 (now (state .exit)) ≡ drop 87 (now (state .entry)) ⌝ }
+    ensures refused { λ r. ⌜ ((r ≡ 0 → ⊥) → now (state .exit) ≡ now (state .entry)) ⌝ }
+    ensures same { λ _. ⌜ (claims (deliveryIn (now (state .entry))) (registerOf offset) ≡ false → now (state .exit) ≡ now (state .entry)) ⌝ }
 {
-    if state.len() < 71 {
+    if state.len() < 87 {
         return 1;
     }
     if out.len() < 1 {
         return 1;
     }
-    out[0] = aplic_state::read(state, offset) as u64;
+    let value = aplic_state::read(state, offset);
+    out[0] = value as u64;
     0
+}
+
+// A hart claims its top interrupt. Status 0: `out` holds what a read of its claimi tells; status 1 as for a read, then 2014 for a hart number above 15: nothing changed.
+#[no_mangle]
+pub extern "C" fn yasmurekh_aplic_claim(state: &mut [u64], hart: u64, out: &mut [u64]) -> u64
+    ensures told { λ r. ⌜ r ≡ domainStatus (now (state .entry)) (roomStatus 1 (now (out .entry)) (hartRefusal hart)) ⌝ }
+    ensures answer { λ r. ⌜ now (out .exit) ≡ underStatus r (now (out .entry)) (set (now (out .entry)) 0 (claimValue hart (tableIn (now (state .entry))))) ⌝ }
+    ensures table { λ r. ⌜ tableIn (now (state .exit)) ≡ underStatus r (tableIn (now (state .entry))) (claimed hart (tableIn (now (state .entry)))) ⌝ }
+    ensures beyond { λ _. ⌜ drop 87 (now (state .exit)) ≡ drop 87 (now (state .entry)) ⌝ }
+    ensures refused { λ r. ⌜ ((r ≡ 0 → ⊥) → now (state .exit) ≡ now (state .entry)) ⌝ }
+{
+    if state.len() < 87 {
+        return 1;
+    }
+    if out.len() < 1 {
+        return 1;
+    }
+    let refusal = hart::refusal(hart);
+    if refusal == 0 {
+        let value = aplic_state::claim(state, hart);
+        out[0] = value as u64;
+    }
+    refusal
+}
+
+// Whether a hart is signalled. Status 0: `out` holds 1 where it is, else 0; the other statuses as for a claim.
+#[no_mangle]
+pub extern "C" fn yasmurekh_aplic_signal(state: &mut [u64], hart: u64, out: &mut [u64]) -> u64
+    ensures told { λ r. ⌜ r ≡ domainStatus (now (state .entry)) (roomStatus 1 (now (out .entry)) (hartRefusal hart)) ⌝ }
+    ensures answer { λ r. ⌜ now (out .exit) ≡ underStatus r (now (out .entry)) (set (now (out .entry)) 0 (digit (signalled hart (tableIn (now (state .entry)))))) ⌝ }
+    ensures words { λ _. ⌜ now (state .exit) ≡ now (state .entry) ⌝ }
+{
+    if state.len() < 87 {
+        return 1;
+    }
+    if out.len() < 1 {
+        return 1;
+    }
+    let refusal = hart::refusal(hart);
+    if refusal == 0 {
+        out[0] = hart::flag(aplic_state::signal(state, hart)) as u64;
+    }
+    refusal
 }
 
 fn put_sent(out: &mut [u64], s: Sent)
@@ -330,11 +379,11 @@ pub extern "C" fn yasmurekh_aplic_forward(state: &mut [u64], out: &mut [u64]) ->
     ensures told { λ r. ⌜ r ≡ domainStatus (now (state .entry)) (status 4 (now (out .entry))) ⌝ }
     ensures answer { λ r. ⌜ now (out .exit) ≡ underStatus r (now (out .entry)) (withSent (now (out .entry)) (sentOf (tableIn (now (state .entry))))) ⌝ }
     ensures table { λ r. ⌜ tableIn (now (state .exit)) ≡ underStatus r (tableIn (now (state .entry))) (forwardTable (tableIn (now (state .entry)))) ⌝ }
-    ensures beyond { λ _. ⌜ drop 71 (now (state .exit)) ≡ drop 71 (now (state .entry)) ⌝ }
+    ensures beyond { λ _. ⌜ drop 87 (now (state .exit)) ≡ drop 87 (now (state .entry)) ⌝ }
     ensures refused { λ r. ⌜ ((r ≡ 0 → ⊥) → now (state .exit) ≡ now (state .entry)) ⌝ }
     ensures idle { λ _. ⌜ (sentOf (tableIn (now (state .entry))) ≡ Idle → now (state .exit) ≡ now (state .entry)) ⌝ }
 {
-    if state.len() < 71 {
+    if state.len() < 87 {
         return 1;
     }
     if out.len() < 4 {
