@@ -6,7 +6,7 @@ use native.Mathlib.Numerals.{add-one}
 use native.Mathlib.Omega.{arith}
 use lib.ListN.{length, getD, drop, length-set}
 use lib.Seq.{sets, sets-eq, take-at, drop-append-add, drop-drop}
-use Rattle.source.specs.declared.Delivery.the-variants.{Message}
+use Rattle.source.specs.declared.Delivery.{Delivery}
 use Rattle.source.specs.Table.{Table, startOf}
 use Rattle.aplic.specs.declared.Domain.{Domain}
 use Rattle.aplic.specs.Domain.{tableOf}
@@ -74,18 +74,26 @@ put-behind p before at r e l =
     ∙ sets-eq vs (p ++ drop at before) at l
     ∙ ap₂ (λ (x y : List ℕ). (x ++ vs) ++ y) (take-at p (drop at before) at e) (rest-behind p before at e)
 
+-- what the buffer holds after n calls from a table
+unfoldable pub answeredFrom : Table → List ℕ → List ℕ → ℕ → List ℕ
+answeredFrom start calls before n = wordsOf (answers start (callsOf calls n)) ++ drop (4 * n) before
+
+from-start : (d : Delivery) (calls before : List ℕ) (n : ℕ) → answeredFrom (startOf d) calls before n ≡ answered d calls before n
+unfolding answered answeredFrom
+from-start d calls before n = refl
+
 -- ---- n of the calls are run: their answers are in the buffer, and the domain is as they leave it
-pub record Replayed (calls before : List ℕ) (end n : ℕ) (d : Domain) (out : List ℕ) : Type 0 where
+pub record Replayed (start : Table) (calls before : List ℕ) (end n : ℕ) (d : Domain) (out : List ℕ) : Type 0 where
   pub turns : n ≤ end
   pub whole : 3 * end ≤ length calls
   pub room : 4 * end ≤ length before
   pub long : length out ≡ length before
-  pub table : tableOf d ≡ afterAll (startOf Message) (callsOf calls n)
-  pub words : out ≡ answered calls before n
+  pub table : tableOf d ≡ afterAll (start) (callsOf calls n)
+  pub words : out ≡ answeredFrom start calls before n
 
-pub none-run : (calls before : List ℕ) (end : ℕ) (d : Domain) → end ≡ min (length calls / 3) (length before / 4) → tableOf d ≡ startOf Message → Replayed calls before end 0 d before
-unfolding answered
-none-run calls before end d e h =
+pub none-run : (start : Table) (calls before : List ℕ) (end : ℕ) (d : Domain) → end ≡ min (length calls / 3) (length before / 4) → tableOf d ≡ start → Replayed start calls before end 0 d before
+unfolding answeredFrom
+none-run start calls before end d e h =
     record {
       turns = omega arith;
       whole = omega arith;
@@ -95,29 +103,29 @@ none-run calls before end d e h =
       words = refl;
     }
 
-module _ (calls before : List ℕ) (end : ℕ) {n : ℕ} {d : Domain} {out : List ℕ} (p : Replayed calls before end n d out) where
+module _ (start : Table) (calls before : List ℕ) (end : ℕ) {n : ℕ} {d : Domain} {out : List ℕ} (p : Replayed start calls before end n d out) where
   room-left : n < end → 4 * n + 4 ≤ length out
   room-left l = omega (arith, p .room, p .long)
 
   module _ (c : Call) (more : callsOf calls (n + 1) ≡ callsOf calls n ++ (c ∷ [])) (l : n < end) where
-    table-more : (e : Domain) → tableOf e ≡ after (tableOf d) c → tableOf e ≡ afterAll (startOf Message) (callsOf calls (n + 1))
+    table-more : (e : Domain) → tableOf e ≡ after (tableOf d) c → tableOf e ≡ afterAll (start) (callsOf calls (n + 1))
     table-more e h =
         h
         ∙ ap (λ (t : Table). after t c) (p .table)
-        ∙ sym (ap (afterAll (startOf Message)) more ∙ after-more (startOf Message) (callsOf calls n) c)
+        ∙ sym (ap (afterAll (start)) more ∙ after-more (start) (callsOf calls n) c)
 
-    answers-then : wordsOf (answers (startOf Message) (callsOf calls (n + 1))) ≡ wordsOf (answers (startOf Message) (callsOf calls n)) ++ wordsOf (answer (tableOf d) c ∷ [])
+    answers-then : wordsOf (answers (start) (callsOf calls (n + 1))) ≡ wordsOf (answers (start) (callsOf calls n)) ++ wordsOf (answer (tableOf d) c ∷ [])
     answers-then =
-        ap (λ (cs : List Call). wordsOf (answers (startOf Message) cs)) more
-        ∙ ap wordsOf (answers-more (startOf Message) (callsOf calls n) c)
-        ∙ words-more (answers (startOf Message) (callsOf calls n)) (answer (afterAll (startOf Message) (callsOf calls n)) c)
-        ∙ ap (λ (t : Table). wordsOf (answers (startOf Message) (callsOf calls n)) ++ wordsOf (answer t c ∷ [])) (sym (p .table))
+        ap (λ (cs : List Call). wordsOf (answers (start) cs)) more
+        ∙ ap wordsOf (answers-more (start) (callsOf calls n) c)
+        ∙ words-more (answers (start) (callsOf calls n)) (answer (afterAll (start) (callsOf calls n)) c)
+        ∙ ap (λ (t : Table). wordsOf (answers (start) (callsOf calls n)) ++ wordsOf (answer t c ∷ [])) (sym (p .table))
 
-    words-then : (r : Reply) → r ≡ replyOf (answer (tableOf d) c) → withReply out (4 * n) r ≡ answered calls before (n + 1)
-    unfolding answered
+    words-then : (r : Reply) → r ≡ replyOf (answer (tableOf d) c) → withReply out (4 * n) r ≡ answeredFrom start calls before (n + 1)
+    unfolding answeredFrom
     words-then r h =
-        let w = wordsOf (answers (startOf Message) (callsOf calls n)) in
-        let e : length w ≡ 4 * n = words-length (startOf Message) (callsOf calls n) ∙ ap (λ (k : ℕ). 4 * k) (calls-length calls n (omega (arith, p .whole))) in
+        let w = wordsOf (answers (start) (callsOf calls n)) in
+        let e : length w ≡ 4 * n = words-length (start) (callsOf calls n) ∙ ap (λ (k : ℕ). 4 * k) (calls-length calls n (omega (arith, p .whole))) in
         let f : 4 * n + 4 ≡ 4 * (n + 1) = omega arith in
         ap (λ (o : List ℕ). withReply o (4 * n) r) (p .words)
         ∙ put-behind w before (4 * n) r e (rw (p .words) at (room-left l))
@@ -128,7 +136,7 @@ module _ (calls before : List ℕ) (end : ℕ) {n : ℕ} {d : Domain} {out : Lis
       → tableOf e ≡ after (tableOf d) (callOf (getD calls (3 * n) 0) (getD calls (3 * n + 1) 0) (getD calls (3 * n + 2) 0))
       → r ≡ replyOf (answer (tableOf d) (callOf (getD calls (3 * n) 0) (getD calls (3 * n + 1) 0) (getD calls (3 * n + 2) 0)))
       → o ≡ withReply out (4 * n) r
-      → Replayed calls before end (n + 1) e o
+      → Replayed start calls before end (n + 1) e o
   one-more e r o l he hr ho =
       let c = callOf (getD calls (3 * n) 0) (getD calls (3 * n + 1) 0) (getD calls (3 * n + 2) 0) in
       let more : callsOf calls (n + 1) ≡ callsOf calls n ++ (c ∷ []) = rw (add-one n) (calls-more calls n _ _ _ (omega (arith, p .whole)) refl refl refl) in
@@ -141,8 +149,8 @@ module _ (calls before : List ℕ) (end : ℕ) {n : ℕ} {d : Domain} {out : Lis
         words = ho ∙ words-then c more l r hr;
       }
 
-  pub all-run : end ≡ min (length calls / 3) (length before / 4) → end ≤ n → (n ≡ runnable calls before) × (out ≡ answered calls before (runnable calls before))
+  pub all-run : (d : Delivery) → start ≡ startOf d → end ≡ min (length calls / 3) (length before / 4) → end ≤ n → (n ≡ runnable calls before) × (out ≡ answered d calls before (runnable calls before))
   unfolding runnable
-  all-run e l =
+  all-run d q e l =
       let z : n ≡ min (length calls / 3) (length before / 4) = omega (arith, p .turns) in
-      (z, p .words ∙ ap (answered calls before) z)
+      (z, p .words ∙ ap₂ (λ (t : Table) (k : ℕ). answeredFrom t calls before k) q z ∙ from-start d calls before (min (length calls / 3) (length before / 4)))

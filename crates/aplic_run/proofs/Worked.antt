@@ -5,9 +5,10 @@ use mathlib.Core.Path.{_≡_, refl}
 use lib.ListN.{replicate}
 use Rattle.word.specs.Word.{marks, wordOf, lowest, chosen, only}
 use Rattle.register.specs.Register.{pendingRegister, enableRegister, registerOf}
+use Rattle.source.specs.declared.Delivery.the-variants.{Direct, Message}
 use Rattle.source.specs.Source.{sensed, raised, lowered, handed, allowed, configured, aimed}
 use Rattle.aplic.specs.Calls.{wireTable, wireRefusal, writeTable, writeRegister, enabledBy, concerned, change, forwardTable, sentOf, sends, topOf, readTable, readRegister, readBits}
-use Rattle.aplic_run.specs.Words.{callOf, runnable, answered}
+use Rattle.aplic_run.specs.Words.{callOf, lateCall, runnable, answered}
 
 -- domaincfg.IE; sourcecfg[1] is edge1; target[1] is hart 2, guest 1, identity 5 (0x8_1005); setienum 1; wire 1 high; two forwards; a wire that is none; a read of target[1]; and a word that is no call
 abbrev pub calls : List ℕ
@@ -21,8 +22,8 @@ unfolding runnable
 nine-run = refl
 
 -- 36 words of answers; the last two of the buffer stay
-pub nine-answered : answered calls (replicate 38 9) 9 ≡ words
-unfolding answered callOf marks wordOf lowest chosen only pendingRegister enableRegister registerOf sensed raised lowered handed allowed configured aimed wireTable wireRefusal writeTable writeRegister enabledBy concerned change forwardTable sentOf sends topOf readTable readRegister readBits
+pub nine-answered : answered Message calls (replicate 38 9) 9 ≡ words
+unfolding answered callOf lateCall marks wordOf lowest chosen only pendingRegister enableRegister registerOf sensed raised lowered handed allowed configured aimed wireTable wireRefusal writeTable writeRegister enabledBy concerned change forwardTable sentOf sends topOf readTable readRegister readBits
 nine-answered = refl
 
 -- a buffer with room for one answer alone

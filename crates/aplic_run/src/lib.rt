@@ -4,9 +4,11 @@ ghost use Prim.Native.Nat.{_+_, _≤_, _/_, min};
 ghost use lib.ListN.{length as lengthOf};
 ghost use Rattle.aplic.specs.Domain.{tableOf};
 ghost use Rattle.aplic.specs.Run.{after, answer, sent};
-ghost use Rattle.aplic_run.specs.Words.{callOf, short, replyOf, runnable, answered, withReply};
+ghost use Rattle.word.specs.Word.{digit};
+ghost use Rattle.aplic_run.specs.Words.{callOf, lateCall, short, pair, replyOf, runnable, answered, withReply};
 use aplic::Domain;
 use aplic::Sent;
+use source::Delivery;
 
 // The words of an answer.
 pub struct Reply {
@@ -34,6 +36,18 @@ fn short_reply(kind: u64, first: u64) -> Reply
     }
 }
 
+// An answer of a refusal and a value.
+fn pair_reply(kind: u64, first: u64, second: u64) -> Reply
+    ensures { λ r. ⌜ r ≡ pair kind first second ⌝ }
+{
+    Reply {
+        kind: kind,
+        first: first,
+        second: second,
+        third: 0,
+    }
+}
+
 // The answer of a forward.
 fn sent_reply(s: Sent) -> Reply
     ensures { λ r. ⌜ r ≡ replyOf (sent s) ⌝ }
@@ -46,6 +60,35 @@ fn sent_reply(s: Sent) -> Reply
             second: m.guest as u64,
             third: m.identity as u64,
         },
+    }
+}
+
+// A claim, a signal or a forward.
+fn late_step(d: Domain, kind: u64, a: u64) -> Stepped
+    ensures { λ r. ⌜ (tableOf (r .domain) ≡ after (tableOf d) (lateCall kind a)) × (r .reply ≡ replyOf (answer (tableOf d) (lateCall kind a))) ⌝ }
+{
+    if kind == 4 {
+        let t = d.claim(a);
+        let next = t.domain;
+        return Stepped {
+            domain: next,
+            reply: pair_reply(5, t.refusal, t.value as u64),
+        };
+    }
+    if kind == 5 {
+        let t = d.signal(a);
+        let next = t.domain;
+        return Stepped {
+            domain: next,
+            reply: pair_reply(6, t.refusal, hart::flag(t.asserted) as u64),
+        };
+    }
+    let f = d.forward();
+    let next = f.domain;
+    let s = f.sent;
+    Stepped {
+        domain: next,
+        reply: sent_reply(s),
     }
 }
 
@@ -75,13 +118,7 @@ fn step(d: Domain, kind: u64, a: u64, b: u64) -> Stepped
             reply: short_reply(2, g.value as u64),
         };
     }
-    let f = d.forward();
-    let next = f.domain;
-    let s = f.sent;
-    Stepped {
-        domain: next,
-        reply: sent_reply(s),
-    }
+    late_step(d, kind, a)
 }
 
 // Puts an answer into four words of a buffer.
@@ -106,12 +143,12 @@ fn turns(words: usize, room: usize) -> usize
 }
 
 // Runs calls from a domain at reset: three words a call (kind, a, b), four words an answer. Gives how many were run.
-pub fn replay(calls: &[u64], out: &mut [u64]) -> u64
+pub fn replay(delivery: Delivery, calls: &[u64], out: &mut [u64]) -> u64
     ensures count { λ r. ⌜ r ≡ runnable (now (calls .entry)) (now (out .entry)) ⌝ }
-    ensures words { λ _. ⌜ now (out .exit) ≡ answered (now (calls .entry)) (now (out .entry)) (runnable (now (calls .entry)) (now (out .entry))) ⌝ }
+    ensures words { λ _. ⌜ now (out .exit) ≡ answered delivery (now (calls .entry)) (now (out .entry)) (runnable (now (calls .entry)) (now (out .entry))) ⌝ }
 {
     let end = turns(calls.len(), out.len());
-    let mut d = Domain::new();
+    let mut d = Domain::new(delivery);
     let mut n: usize = 0;
     while n < end {
         let s = step(d, calls[3 * n], calls[3 * n + 1], calls[3 * n + 2]);
