@@ -185,7 +185,8 @@ impl Maker {
         match random.below(100) {
             0..=1 => HARTS,
             2 => random.between(HARTS + 1, 2 * HARTS - 1),
-            3..=4 => random.of_width(64).max(2 * HARTS) / HARTS * HARTS + hart,
+            3 => random.of_width(64).max(2 * HARTS) / HARTS * HARTS + hart,
+            4 => 1 << random.between(5, 63) | hart,
             5 => u64::MAX,
             _ => hart,
         }
