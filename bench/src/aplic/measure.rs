@@ -36,6 +36,8 @@ fn once<P: Program>(state: &mut State, call: &Call) -> Forwarded {
             [0; 4]
         }
         Kind::Forward => P::forward(state),
+        Kind::Claim => [P::claim(state, number), 0, 0, 0],
+        Kind::Signal => [P::signal(state, number), 0, 0, 0],
     }
 }
 
@@ -63,6 +65,12 @@ fn run<P: Program>(row: &Row, state: &mut State) -> u64 {
             0
         }
         Some(Kind::Forward) => calls.fold(0, |sum, _| summed(sum, P::forward(state))),
+        Some(Kind::Claim) => calls.fold(0, |sum, call| {
+            sum.wrapping_add(P::claim(state, u64::from(call.number)))
+        }),
+        Some(Kind::Signal) => calls.fold(0, |sum, call| {
+            sum.wrapping_add(P::signal(state, u64::from(call.number)))
+        }),
         None => calls.fold(0, |sum, call| summed(sum, once::<P>(state, call))),
     }
 }
@@ -76,7 +84,7 @@ impl Measured for Row {
     }
 
     fn start(&self) -> State {
-        let mut state = State::new();
+        let mut state = State::new(self.delivery);
         for call in &self.set_up {
             for side in BOTH {
                 (side.once)(&mut state, call);
