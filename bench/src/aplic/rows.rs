@@ -186,21 +186,26 @@ fn refused() -> Row {
     row
 }
 
-/// Sixty-three forwards, and two mask writes that make all pending again.
-fn forwards() -> Row {
+/// Sixty-three forwards or claims of detached sources, and two mask writes that make all pending again.
+fn drained(name: &'static str, call: Call, set_up: Vec<Call>) -> Row {
     let mut calls = Vec::new();
     while calls.len() < CALLS {
         calls.extend([0, 1].map(|half| mask_write(Mask::Setip, half, u32::MAX)));
-        calls.extend([Call::FORWARD; 63]);
+        calls.extend([call; 63]);
     }
     Row {
-        name: "forward, some waiting (of 65 calls 2 are mask writes)",
+        name,
         delivery: Delivery::Message,
         kind: None,
-        set_up: set_up_detached(),
+        set_up,
         calls,
-        expected: |call, answer| call.kind != Kind::Forward || answer[0] == 1,
+        expected: |call, answer| call.kind == Kind::Write || answer[0] != 0,
     }
+}
+
+fn forwards() -> Row {
+    let name = "forward, some waiting (of 65 calls 2 are mask writes)";
+    drained(name, Call::FORWARD, set_up_detached())
 }
 
 fn no_forwards() -> Row {
@@ -210,26 +215,30 @@ fn no_forwards() -> Row {
     row
 }
 
-/// Mostly wires and forwards, as a controller at work has them.
-fn mix() -> Row {
-    let mut random = Random::new(14, 0);
-    let calls = (0..MIX).map(|_| match random.below(100) {
-        0..=39 => wire_change(&mut random),
-        40..=69 => Call::FORWARD,
-        70..=79 => mask_read(&mut random),
-        80..=89 => by_number(&mut random),
-        90..=94 => some_mask(&mut random, [Mask::Setip, Mask::InClrip]),
-        95..=97 => target(&mut random),
-        _ => sourcecfg(&mut random),
-    });
+/// Calls of all kinds, as a controller at work has them.
+fn mixed(name: &'static str, seed: u64, set_up: Vec<Call>, call: fn(&mut Random) -> Call) -> Row {
+    let mut random = Random::new(seed, 0);
     Row {
-        name: "mix: 40 % wires, 30 % forwards, 30 % reads and writes",
+        name,
         delivery: Delivery::Message,
         kind: None,
-        set_up: set_up(),
-        calls: calls.collect(),
+        set_up,
+        calls: (0..MIX).map(|_| call(&mut random)).collect(),
         expected: |_, _| true,
     }
+}
+
+fn mix() -> Row {
+    let name = "mix: 40 % wires, 30 % forwards, 30 % reads and writes";
+    mixed(name, 14, set_up(), |random| match random.below(100) {
+        0..=39 => wire_change(random),
+        40..=69 => Call::FORWARD,
+        70..=79 => mask_read(random),
+        80..=89 => by_number(random),
+        90..=94 => some_mask(random, [Mask::Setip, Mask::InClrip]),
+        95..=97 => target(random),
+        _ => sourcecfg(random),
+    })
 }
 
 /// The rows of message delivery, then those of direct delivery.
@@ -339,20 +348,12 @@ fn asked_row(name: &'static str, kind: Kind, levels: u64) -> Row {
     row
 }
 
-/// Sixty-three claims of detached sources, and two mask writes that make all pending again.
 fn claims() -> Row {
-    let mut calls = Vec::new();
-    while calls.len() < CALLS {
-        calls.extend([0, 1].map(|half| mask_write(Mask::Setip, half, u32::MAX)));
-        calls.extend([Call::of_hart(Kind::Claim, 0); 63]);
-    }
+    let name = "direct: claim, 63 to 1 detached waiting (of 65 calls 2 are mask writes)";
+    let claim = Call::of_hart(Kind::Claim, 0);
     Row {
-        name: "direct: claim, 63 to 1 detached waiting (of 65 calls 2 are mask writes)",
         delivery: Delivery::Direct,
-        kind: None,
-        set_up: set_up_waiting(63, DETACHED),
-        calls,
-        expected: |call, answer| call.kind != Kind::Claim || answer[0] != 0,
+        ..drained(name, claim, set_up_waiting(63, DETACHED))
     }
 }
 
@@ -371,26 +372,21 @@ fn topi_read(random: &mut Random) -> Call {
     Call::read(register.offset() as u32)
 }
 
-/// Mostly wires, claims and signals, as a controller at work has them.
 fn direct_mix() -> Row {
-    let mut random = Random::new(17, 0);
-    let calls = (0..MIX).map(|_| match random.below(100) {
-        0..=39 => wire_change(&mut random),
-        40..=54 => Call::of_hart(Kind::Signal, hart(&mut random)),
-        55..=69 => Call::of_hart(Kind::Claim, hart(&mut random)),
-        70..=79 => mask_read(&mut random),
-        80..=89 => by_number(&mut random),
-        90..=94 => hart_write(&mut random),
-        95..=97 => direct_target(&mut random),
-        _ => sourcecfg(&mut random),
-    });
+    let name = "direct mix: 40 % wires, 15 % signals, 15 % claims, 30 % reads and writes";
+    let call = |random: &mut Random| match random.below(100) {
+        0..=39 => wire_change(random),
+        40..=54 => Call::of_hart(Kind::Signal, hart(random)),
+        55..=69 => Call::of_hart(Kind::Claim, hart(random)),
+        70..=79 => mask_read(random),
+        80..=89 => by_number(random),
+        90..=94 => hart_write(random),
+        95..=97 => direct_target(random),
+        _ => sourcecfg(random),
+    };
     Row {
-        name: "direct mix: 40 % wires, 15 % signals, 15 % claims, 30 % reads and writes",
         delivery: Delivery::Direct,
-        kind: None,
-        set_up: set_up_direct(),
-        calls: calls.collect(),
-        expected: |_, _| true,
+        ..mixed(name, 17, set_up_direct(), call)
     }
 }
 

@@ -20,7 +20,6 @@ pub const TARGET: u64 = 0x3000;
 /// All checks of this file, in order.
 pub fn all(checks: &mut Checks) {
     reset(checks);
-    domaincfg(checks);
     for (text, rows) in PENDING {
         pending(checks, Delivery::Message, text, rows);
     }
@@ -30,6 +29,7 @@ pub fn all(checks: &mut Checks) {
     forward_order(checks);
     still_asserted(checks);
     for delivery in Delivery::ALL {
+        domaincfg(checks, delivery);
         sourcecfg(checks, delivery);
         rectified(checks, delivery);
         masks(checks, delivery);
@@ -60,18 +60,26 @@ fn reset(checks: &mut Checks) {
     checks.holds("domain at reset: a forward answers none", none);
 }
 
-/// 002, 4.1.5.1.
-fn domaincfg(checks: &mut Checks) {
-    let mut domain = Domain::new(Delivery::Message);
-    for (written, read) in [
-        (0xFFFF_FFFF, 0x8000_0104),
-        (0xFFFF_FEFF, 0x8000_0004),
-        (0x0000_0100, 0x8000_0104),
-        (0x0000_0000, 0x8000_0004),
-        (0x0101_0101, 0x8000_0104),
+/// 002, 4.1.5.1: DM is 1 in MSI delivery mode, 0 in direct delivery mode; 02, Req 08: "The mode is fixed".
+fn domaincfg(checks: &mut Checks, delivery: Delivery) {
+    let mut domain = Domain::new(delivery);
+    let fixed = match delivery {
+        Delivery::Message => 0x8000_0004,
+        Delivery::Direct => 0x8000_0000,
+    };
+    for (written, enable) in [
+        (0xFFFF_FFFF, 0x100),
+        (0xFFFF_FEFF, 0),
+        (0x0000_0100, 0x100),
+        (0x0000_0000, 0),
+        (0x0101_0101, 0x100),
+        (0x0000_0004, 0),
+        (0x0000_0104, 0x100),
     ] {
         domain.write(0, written);
-        let name = format!("domaincfg written {written:#x} reads {read:#x}");
+        let read = fixed | enable;
+        let mode = delivery.name();
+        let name = format!("{mode}: domaincfg written {written:#x} reads {read:#x}");
         checks.holds(&name, domain.read(0) == read);
     }
 }

@@ -17,7 +17,6 @@ const CLAIMI: u64 = 0x401C;
 /// All checks of this file, in order.
 pub fn all(checks: &mut Checks) {
     reset(checks);
-    domaincfg(checks);
     for (text, rows) in PENDING {
         pending(checks, Delivery::Direct, text, rows);
     }
@@ -71,21 +70,6 @@ fn reset(checks: &mut Checks) {
         "direct, at reset: no hart is signalled, claims are 0",
         quiet && domain == start,
     );
-}
-
-/// 002, 4.1.5.1: DM is 0 in direct delivery mode; 02, Req 08: "The mode is fixed".
-fn domaincfg(checks: &mut Checks) {
-    let mut domain = Domain::new(Delivery::Direct);
-    for (written, read) in [
-        (0xFFFF_FFFF, 0x8000_0100),
-        (0xFFFF_FEFF, 0x8000_0000),
-        (0x0000_0104, 0x8000_0100),
-        (0x0000_0004, 0x8000_0000),
-    ] {
-        domain.write(0, written);
-        let name = format!("direct: domaincfg written {written:#x} reads {read:#x}");
-        checks.holds(&name, domain.read(0) == read);
-    }
 }
 
 /// Sentences of 002, 4.1.7 and 4.1.5.2, each with rows.
