@@ -158,6 +158,7 @@ impl<L: Side> Comparison<L> {
 
     fn call(&mut self, pair: &mut Pair<L>, number: usize, call: &Call) -> Result<(), Difference> {
         let before = pair.library.clone();
+        let was = is_claim(call).then(|| pair.reference.clone());
         let library = pair.library.call(call);
         let reference = match &mut self.coverage {
             None => pair.reference.run(call),
@@ -170,7 +171,12 @@ impl<L: Side> Comparison<L> {
                 reference,
             });
         }
-        if changes_nothing(call, reference, &pair.reference) && before != pair.library {
+        let delivery = pair.reference.delivery();
+        let nothing_changes = match was {
+            Some(was) => was == pair.reference,
+            None => changes_nothing(call, reference, delivery),
+        };
+        if nothing_changes && before != pair.library {
             return Err(Difference::Changed { call: number });
         }
         Ok(())
@@ -196,30 +202,27 @@ impl<L: Side> Comparison<L> {
     }
 }
 
-/// Signals, reads but of claimi, refusals, forwards of nothing, writes where nothing can be written,
-/// claims of a level-sensitive source, and in message delivery all claims.
-fn changes_nothing(call: &Call, answer: Answer, after: &Domain) -> bool {
-    let message = after.delivery() == Delivery::Message;
-    let claim_changes_nothing = || match answer {
-        Answer::Value(value) => {
-            let source = after.source(u64::from(value >> 16));
-            message || source.is_some_and(|source| source.mode.is_level())
-        }
-        _ => true,
-    };
+/// Claims, and reads of claimi; whether one changes anything is seen from the reference.
+fn is_claim(call: &Call) -> bool {
+    match call {
+        Call::Claim { .. } => true,
+        Call::Read { offset } => matches!(
+            Register::at(*offset),
+            Some(Register::Hart(_, HartRegister::Claimi))
+        ),
+        _ => false,
+    }
+}
+
+/// Signals, reads, refusals, forwards of nothing, and writes where nothing can be written.
+fn changes_nothing(call: &Call, answer: Answer, delivery: Delivery) -> bool {
     match (call, answer) {
         (_, Answer::Refused(_) | Answer::Forwarded(None) | Answer::Signalled(_)) => true,
-        (Call::Claim { .. }, _) => claim_changes_nothing(),
-        (Call::Read { offset }, _) => match Register::at(*offset) {
-            Some(Register::Hart(_, HartRegister::Claimi)) => claim_changes_nothing(),
-            _ => true,
-        },
+        (Call::Read { .. }, _) => true,
         (Call::Write { offset, .. }, _) => match Register::at(*offset) {
-            None
-            | Some(
-                Register::Hart(_, HartRegister::Claimi) | Register::Hart(_, HartRegister::Topi),
-            ) => true,
-            Some(Register::Hart(..)) => message,
+            None => true,
+            Some(Register::Hart(_, HartRegister::Topi | HartRegister::Claimi)) => true,
+            Some(Register::Hart(..)) => delivery == Delivery::Message,
             Some(_) => false,
         },
         _ => false,
