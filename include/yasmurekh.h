@@ -280,8 +280,8 @@ uint64_t yasmurekh_report(uint64_t start, const uint8_t *window,
 /*
  * The value of topi, of claimi and of a claim: the identity, which is the source's
  * number, in bits 25:16, its priority in 7:0; all zero where no source is pending,
- * enabled, targeted to the hart and below its threshold. Of several, the one with
- * the lowest priority number, then the lowest source number.
+ * enabled, targeted to the hart and below its threshold, if that isn't 0. Of several,
+ * the one with the lowest priority number, then the lowest source number.
  */
 #define YASMUREKH_APLIC_TOPI_IDENTITY(value) ((value) >> 16 & 0x3FFu)
 #define YASMUREKH_APLIC_TOPI_PRIORITY(value) ((value) & 0xFFu)

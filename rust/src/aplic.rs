@@ -183,9 +183,9 @@ impl Domain {
     }
 
     /// Claims the top interrupt of a hart, as a read of its claimi does: of the sources that are
-    /// pending, enabled, targeted to the hart and below its threshold the one with the lowest priority
-    /// number, then the lowest source number. Its pending bit is cleared, unless it is level-sensitive:
-    /// such a source is pending as long as its wire is asserted.
+    /// pending, enabled, targeted to the hart and below its threshold, if that isn't 0, the one with the
+    /// lowest priority number, then the lowest source number. Its pending bit is cleared, unless it is
+    /// level-sensitive: such a source is pending as long as its wire is asserted.
     ///
     /// None is a spurious interrupt, which a handler ignores; iforce of the hart is then cleared. In
     /// message delivery there is none, and nothing changes.
