@@ -3,7 +3,7 @@
  * and a domain of an interrupt controller (APLIC) for devices that signal by wire.
  *
  * All tables and interrupt files lie in one window of memory that the caller
- * lends; a wired domain is a state of 71 words that the caller lends. No routine
+ * lends; a wired domain is a state of 87 words that the caller lends. No routine
  * keeps state, allocates or blocks; calls on different windows or states may run
  * at the same time. Nothing outside the archive is called, no C library either.
  *
@@ -77,6 +77,7 @@ extern "C" {
 #define YASMUREKH_REFUSAL_IDENTITY 2009u     /* take: identity above 2047 */
 #define YASMUREKH_REFUSAL_NUMBER 2010u       /* request: unknown access or flag */
 #define YASMUREKH_REFUSAL_SOURCE 2014u       /* wire: source outside 1 to 63; the status of the call */
+#define YASMUREKH_REFUSAL_HART 2014u         /* claim, signal: hart above 15; the status of the call */
 
 /* Fault causes, as the IOMMU specification numbers them. */
 #define YASMUREKH_CAUSE_INSTRUCTION_ACCESS 1u
@@ -190,19 +191,32 @@ uint64_t yasmurekh_report(uint64_t start, const uint8_t *window,
                           size_t out_len);
 
 /*
- * The wired domain: one supervisor leaf domain of an APLIC with message delivery,
- * little-endian, sources 1 to 63, as the Advanced Interrupt Architecture has it.
+ * The wired domain: one supervisor leaf domain of an APLIC, little-endian, sources
+ * 1 to 63, as the Advanced Interrupt Architecture has it. It delivers either by
+ * messages, which yasmurekh_aplic_forward hands out, or directly to harts 0 to 15,
+ * which are signalled and claim their interrupts.
  *
- * Its state is YASMUREKH_APLIC_WORDS words that the caller lends to each call.
- * That many zero words are a domain at reset; which word holds what is the
- * library's own. Any words are answered, but only words that began at zero and
- * went through these calls stand for a domain that the architecture describes.
+ * Its state is YASMUREKH_APLIC_WORDS words that the caller lends to each call. That
+ * many zero words are a domain at reset with message delivery; the same but for
+ * YASMUREKH_APLIC_DIRECT in word YASMUREKH_APLIC_DELIVERY one with direct delivery:
+ *
+ *   uint64_t state[YASMUREKH_APLIC_WORDS] = {[YASMUREKH_APLIC_DELIVERY] = YASMUREKH_APLIC_DIRECT};
+ *
+ * No call changes the delivery mode. Which other word holds what is the library's
+ * own. Any words are answered, but only words that began in one of these two ways
+ * and went through these calls stand for a domain that the architecture describes.
  * Words of `state` after those are never looked at.
  */
-#define YASMUREKH_APLIC_WORDS 71u        /* words of a domain's state */
+#define YASMUREKH_APLIC_WORDS 87u        /* words of a domain's state */
+#define YASMUREKH_APLIC_DELIVERY 7u      /* place of the word with the delivery mode, its lowest bit */
+#define YASMUREKH_APLIC_MESSAGE 0u       /* message delivery */
+#define YASMUREKH_APLIC_DIRECT 1u        /* direct delivery */
 #define YASMUREKH_APLIC_SOURCES 63u      /* sources 1 to 63 */
+#define YASMUREKH_APLIC_HARTS 16u        /* harts 0 to 15, in direct delivery */
 #define YASMUREKH_APLIC_READ_WORDS 1u    /* `out` of a read: the value */
 #define YASMUREKH_APLIC_FORWARD_WORDS 4u /* `out` of a forward: 1 or 0, hart index, guest index, identity */
+#define YASMUREKH_APLIC_CLAIM_WORDS 1u   /* `out` of a claim: the value of claimi */
+#define YASMUREKH_APLIC_SIGNAL_WORDS 1u  /* `out` of a signal: 1 or 0 */
 
 /* Places in the `out` of a forward. */
 #define YASMUREKH_APLIC_FORWARD_MADE 0u /* 1; or 0 where nothing is forwarded, and the other words too */
@@ -210,7 +224,10 @@ uint64_t yasmurekh_report(uint64_t start, const uint8_t *window,
 #define YASMUREKH_APLIC_FORWARD_GUEST 2u
 #define YASMUREKH_APLIC_FORWARD_IDENTITY 3u
 
-/* Offsets of registers; n is a source, 1 to 63; k is 0 for sources 0 to 31, 1 for sources 32 to 63. */
+/*
+ * Offsets of registers; n is a source, 1 to 63; k is 0 for sources 0 to 31, 1 for
+ * sources 32 to 63; h is a hart, 0 to 15.
+ */
 #define YASMUREKH_APLIC_DOMAINCFG UINT64_C(0x0000)
 #define YASMUREKH_APLIC_SOURCECFG(n) (UINT64_C(4) * (n))                   /* source mode */
 #define YASMUREKH_APLIC_SETIP(k) (UINT64_C(0x1C00) + UINT64_C(4) * (k))    /* pending bits; ones set */
@@ -222,9 +239,22 @@ uint64_t yasmurekh_report(uint64_t start, const uint8_t *window,
 #define YASMUREKH_APLIC_CLRIE(k) (UINT64_C(0x1F00) + UINT64_C(4) * (k))    /* reads zero; ones clear enable bits */
 #define YASMUREKH_APLIC_CLRIENUM UINT64_C(0x1FDC)                          /* clears an enable bit by number */
 #define YASMUREKH_APLIC_SETIPNUM_LE UINT64_C(0x2000)                       /* as setipnum */
-#define YASMUREKH_APLIC_TARGET(n) (UINT64_C(0x3000) + UINT64_C(4) * (n))   /* where its messages go */
+#define YASMUREKH_APLIC_TARGET(n) (UINT64_C(0x3000) + UINT64_C(4) * (n))   /* where it goes */
 
-/* domaincfg: the domain's enable bit, the one that can be written; reads 0x80000004 beside it. */
+/*
+ * Registers of a hart. In message delivery they read zero and ignore writes. topi and
+ * claimi ignore writes in both.
+ */
+#define YASMUREKH_APLIC_IDELIVERY(h) (UINT64_C(0x4000) + UINT64_C(32) * (h))  /* 1: the hart may be signalled */
+#define YASMUREKH_APLIC_IFORCE(h) (UINT64_C(0x4004) + UINT64_C(32) * (h))     /* 1: signalled without a source */
+#define YASMUREKH_APLIC_ITHRESHOLD(h) (UINT64_C(0x4008) + UINT64_C(32) * (h)) /* 0, or priorities from it on wait */
+#define YASMUREKH_APLIC_TOPI(h) (UINT64_C(0x4018) + UINT64_C(32) * (h))       /* top interrupt, or 0 */
+#define YASMUREKH_APLIC_CLAIMI(h) (UINT64_C(0x401C) + UINT64_C(32) * (h))     /* as topi; a read claims it */
+
+/*
+ * domaincfg: the domain's enable bit, the one that can be written; beside it reads
+ * 0x80000004 in message delivery, 0x80000000 in direct delivery.
+ */
 #define YASMUREKH_APLIC_DOMAINCFG_IE 0x100u
 
 /* Source modes; 2 and 3 are kept as 0, and so is a value with bit 10. */
@@ -235,10 +265,26 @@ uint64_t yasmurekh_report(uint64_t start, const uint8_t *window,
 #define YASMUREKH_APLIC_LEVEL1 6u   /* high level */
 #define YASMUREKH_APLIC_LEVEL0 7u   /* low level */
 
-/* Fields of a target: hart index in bits 31:18, guest index in 17:12, identity in 10:0. */
+/*
+ * Fields of a target: hart index in bits 31:18; in message delivery guest index in
+ * 17:12 and identity in 10:0; in direct delivery the priority in 7:0, where 0 is kept
+ * as 1, and a lower number goes first. A hart index above 15 is kept and reaches no
+ * hart. A source made active starts with hart index 0 and with identity 0 or
+ * priority 1.
+ */
 #define YASMUREKH_APLIC_TARGET_HART_SHIFT 18u
 #define YASMUREKH_APLIC_TARGET_GUEST_SHIFT 12u
 #define YASMUREKH_APLIC_TARGET_IDENTITY_SHIFT 0u
+#define YASMUREKH_APLIC_TARGET_PRIORITY_SHIFT 0u
+
+/*
+ * The value of topi, of claimi and of a claim: the identity, which is the source's
+ * number, in bits 25:16, its priority in 7:0; all zero where no source is pending,
+ * enabled, targeted to the hart and below its threshold, if that isn't 0. Of several,
+ * the one with the lowest priority number, then the lowest source number.
+ */
+#define YASMUREKH_APLIC_TOPI_IDENTITY(value) ((value) >> 16 & 0x3FFu)
+#define YASMUREKH_APLIC_TOPI_PRIORITY(value) ((value) & 0xFFu)
 
 /*
  * Gives the wire of a source a level: 0 is low, any other number high.
@@ -255,8 +301,8 @@ uint64_t yasmurekh_aplic_wire(uint64_t *state, size_t state_len,
 
 /*
  * Writes 32 bits to the register at `offset`. An offset that is no register of
- * the domain (misaligned, undefined, genmsi, setipnum_be, of sources above 63,
- * beyond the region) is ignored.
+ * the domain (misaligned, undefined, genmsi, setipnum_be, of sources above 63 or
+ * harts above 15, beyond the region) is ignored.
  *
  * Lent: `state`. Changed: what the register stands for. Never changed: what the
  * other registers and the wires stand for, and any word where no register is.
@@ -269,8 +315,9 @@ uint64_t yasmurekh_aplic_write(uint64_t *state, size_t state_len,
 /*
  * Reads the 32 bits of the register at `offset`; 0 where no register is.
  *
- * Lent: `state` and `out`. Changed: the first word of `out`. Never changed: the
- * words of `out` after it, and, in message delivery, `state`.
+ * Lent: `state` and `out`. Changed: the first word of `out`, and, where claimi of a
+ * hart is read in direct delivery, what yasmurekh_aplic_claim changes. Never
+ * changed: the words of `out` after it, and `state` by any other read.
  *
  * Returns YASMUREKH_OK; or YASMUREKH_SHORT_BUFFER, with nothing changed, where
  * `state_len` is below YASMUREKH_APLIC_WORDS or `out_len` below
@@ -283,7 +330,8 @@ uint64_t yasmurekh_aplic_read(uint64_t *state, size_t state_len,
  * Forwards one interrupt: takes the lowest-numbered source that is pending and
  * enabled while IE of domaincfg is set, clears its pending bit, and hands out its
  * target. The message is not sent: the caller writes the identity, as 32 bits, to
- * the interrupt file that hart index and guest index name.
+ * the interrupt file that hart index and guest index name. In direct delivery
+ * nothing is forwarded.
  *
  * Lent: `state` and `out`. Changed: the first four words of `out`, and that one
  * pending bit. Never changed: the words of `out` after the fourth, what else
@@ -295,6 +343,42 @@ uint64_t yasmurekh_aplic_read(uint64_t *state, size_t state_len,
  */
 uint64_t yasmurekh_aplic_forward(uint64_t *state, size_t state_len,
                                  uint64_t *out, size_t out_len);
+
+/*
+ * Claims the top interrupt of a hart: hands out what a read of its claimi gives, and
+ * does what that read does. In message delivery the value is 0 and nothing changes.
+ *
+ * A trap handler claims, takes the identity (YASMUREKH_APLIC_TOPI_IDENTITY), and
+ * calls that source's handler; identity 0 is a spurious interrupt, to be ignored. It
+ * may go on until it gets 0. A level-sensitive source stays pending until its wire
+ * is de-asserted, so that its handler must quiet the device.
+ *
+ * Lent: `state` and `out`. Changed: the first word of `out`; where the value isn't 0,
+ * the pending bit of that source, cleared unless it is level-sensitive; where it is
+ * 0, iforce of the hart, cleared. Never changed: the words of `out` after the first,
+ * and what else `state` stands for.
+ *
+ * Returns YASMUREKH_OK; YASMUREKH_SHORT_BUFFER, with nothing changed, where
+ * `state_len` is below YASMUREKH_APLIC_WORDS or `out_len` below
+ * YASMUREKH_APLIC_CLAIM_WORDS; or else YASMUREKH_REFUSAL_HART, with nothing changed,
+ * where `hart` is above 15.
+ */
+uint64_t yasmurekh_aplic_claim(uint64_t *state, size_t state_len,
+                               uint64_t hart, uint64_t *out, size_t out_len);
+
+/*
+ * Tells whether a hart is signalled: 1 where IE of domaincfg and idelivery of the
+ * hart are 1 and its iforce or its topi isn't 0, else 0; always 0 in message delivery.
+ * The caller drives the hart's external interrupt with it, after each call that may
+ * have changed it.
+ *
+ * Lent: `state` and `out`. Changed: the first word of `out`. Never changed: the
+ * words of `out` after it, and `state`.
+ *
+ * Returns as yasmurekh_aplic_claim does, with YASMUREKH_APLIC_SIGNAL_WORDS.
+ */
+uint64_t yasmurekh_aplic_signal(uint64_t *state, size_t state_len,
+                                uint64_t hart, uint64_t *out, size_t out_len);
 
 #ifdef __cplusplus
 }

@@ -128,7 +128,7 @@ fn run_domains(options: &Options, coverage: bool) -> bool {
         println!();
         coverage.print_rest();
     }
-    println!("{compared} registers of the wired domain compared, 0 differences");
+    println!("{compared} registers and signals of the wired domain compared, 0 differences");
     true
 }
 
@@ -153,7 +153,7 @@ fn replay(path: &str, aplic: bool) -> Result<bool, String> {
     if aplic {
         let mut comparison = aplic::Comparison::new(aplic::Library::default(), None);
         read_domains(&text, |written| {
-            count.compare(&mut comparison, written.index, written.calls);
+            count.compare(&mut comparison, written.index, written.list);
         })?;
     } else {
         let mut comparison = Comparison::new(Library, Reference::default());

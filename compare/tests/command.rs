@@ -61,7 +61,7 @@ fn the_wired_domain() {
     assert!(text.contains("pending bits (4.1.7)") && text.contains(" marks met\n"));
     let line = last_line(&run);
     assert!(line.starts_with("seed 5, lists 0 to "), "{line}");
-    let end = " registers of the wired domain compared, 0 differences";
+    let end = " registers and signals of the wired domain compared, 0 differences";
     assert!(line.ends_with(end), "{line}");
 
     let path = std::path::Path::new(env!("CARGO_TARGET_TMPDIR")).join("domains.txt");

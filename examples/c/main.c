@@ -1,7 +1,7 @@
 /*
  * A small use of Yasmurekh from C: one window with tables and interrupt files,
- * a translation under both stages, a message, its take, a refusal and faults;
- * and a fan that signals by wire.
+ * a translation under both stages, a message, its take, a refusal and faults; a fan
+ * that signals by wire; and the same fan at a controller without message files.
  */
 #include <inttypes.h>
 #include <stdio.h>
@@ -193,6 +193,13 @@ static void edges(void)
 #define FAN 7u
 static uint64_t domain[YASMUREKH_APLIC_WORDS];
 
+/* A reset of the domain, with message delivery or with direct delivery. */
+static void reset(uint64_t delivery)
+{
+    memset(domain, 0, sizeof domain);
+    domain[YASMUREKH_APLIC_DELIVERY] = delivery;
+}
+
 static uint64_t read_register(uint64_t offset)
 {
     uint64_t out[YASMUREKH_APLIC_READ_WORDS];
@@ -234,6 +241,7 @@ static void fan(void)
     const uint32_t hart = 2u << YASMUREKH_APLIC_TARGET_HART_SHIFT;
     const uint32_t guest = 1u << YASMUREKH_APLIC_TARGET_GUEST_SHIFT;
 
+    reset(YASMUREKH_APLIC_MESSAGE);
     write_register(YASMUREKH_APLIC_DOMAINCFG, YASMUREKH_APLIC_DOMAINCFG_IE);
     write_register(YASMUREKH_APLIC_SOURCECFG(FAN), YASMUREKH_APLIC_LEVEL1);
     write_register(YASMUREKH_APLIC_TARGET(FAN), hart | guest | 37u);
@@ -248,6 +256,82 @@ static void fan(void)
     write_register(YASMUREKH_APLIC_SETIPNUM, FAN);
     forward("forward after setipnum, the wire low");
     wire("wire 64 high", 64, 1);
+}
+
+/* Without message files: hart 2 is signalled, and claims. A button gives a pulse on source 9. */
+#define BUTTON 9u
+#define HART 2u
+
+/* Makes a source active and enabled, with a priority at the hart. */
+static void set_up(uint32_t source, uint32_t mode, uint32_t priority)
+{
+    write_register(YASMUREKH_APLIC_SOURCECFG(source), mode);
+    write_register(YASMUREKH_APLIC_TARGET(source),
+                   HART << YASMUREKH_APLIC_TARGET_HART_SHIFT | priority);
+    write_register(YASMUREKH_APLIC_SETIENUM, source);
+}
+
+/* Whether a hart is signalled. */
+static void signal_of(const char *what, uint64_t hart)
+{
+    uint64_t out[YASMUREKH_APLIC_SIGNAL_WORDS] = {9};
+    uint64_t status = yasmurekh_aplic_signal(domain, YASMUREKH_APLIC_WORDS, hart, out,
+                                             YASMUREKH_APLIC_SIGNAL_WORDS);
+
+    if (status != YASMUREKH_OK)
+        printf("%s: status %" PRIu64 "\n", what, status);
+    else
+        printf("%s: %s\n", what, out[0] ? "signalled" : "not signalled");
+}
+
+/* The trap handler: claims until identity 0, which says that nothing is left, or never was. */
+static void trap(const char *what)
+{
+    uint64_t out[YASMUREKH_APLIC_CLAIM_WORDS];
+    uint64_t source;
+
+    printf("%s:", what);
+    for (;;) {
+        yasmurekh_aplic_claim(domain, YASMUREKH_APLIC_WORDS, HART, out,
+                              YASMUREKH_APLIC_CLAIM_WORDS);
+        source = YASMUREKH_APLIC_TOPI_IDENTITY(out[0]);
+        if (source == 0)
+            break;
+        printf(" source %" PRIu64 " with priority %" PRIu64 ",", source,
+               YASMUREKH_APLIC_TOPI_PRIORITY(out[0]));
+        /* A level stays pending until its handler has quieted the device. */
+        if (source == FAN)
+            yasmurekh_aplic_wire(domain, YASMUREKH_APLIC_WORDS, FAN, 0);
+    }
+    printf(" nothing left\n");
+}
+
+static void without_message_files(void)
+{
+    reset(YASMUREKH_APLIC_DIRECT);
+    write_register(YASMUREKH_APLIC_DOMAINCFG, YASMUREKH_APLIC_DOMAINCFG_IE);
+    set_up(FAN, YASMUREKH_APLIC_LEVEL1, 3);
+    set_up(BUTTON, YASMUREKH_APLIC_EDGE1, 5);
+    printf("domaincfg, direct delivery: 0x%" PRIx64 "\n", read_register(YASMUREKH_APLIC_DOMAINCFG));
+    wire("pulse of the button, high", BUTTON, 1);
+    wire("pulse of the button, low", BUTTON, 0);
+    wire("wire of the fan high", FAN, 1);
+    signal_of("hart 2 without delivery", HART);
+    write_register(YASMUREKH_APLIC_IDELIVERY(HART), 1);
+    signal_of("hart 2 with delivery", HART);
+    write_register(YASMUREKH_APLIC_ITHRESHOLD(HART), 5);
+    printf("topi: 0x%" PRIx64 "\n", read_register(YASMUREKH_APLIC_TOPI(HART)));
+    trap("trap under threshold 5");
+    signal_of("hart 2, the button still barred", HART);
+    write_register(YASMUREKH_APLIC_ITHRESHOLD(HART), 0);
+    signal_of("hart 2 under threshold 0", HART);
+    trap("trap under threshold 0");
+    signal_of("hart 2 after it", HART);
+    write_register(YASMUREKH_APLIC_IFORCE(HART), 1);
+    signal_of("hart 2, forced", HART);
+    trap("trap");
+    signal_of("hart 2 after it", HART);
+    signal_of("hart 16", YASMUREKH_APLIC_HARTS);
 }
 
 int main(void)
@@ -275,5 +359,6 @@ int main(void)
     edges();
     printf("window after these: %s\n", memcmp(before, window, sizeof window) ? "changed" : "unchanged");
     fan();
+    without_message_files();
     return 0;
 }

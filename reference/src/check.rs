@@ -69,6 +69,7 @@ pub fn all() -> Vec<Check> {
     message_rules(&mut checks);
     ledger_rules(&mut checks);
     aplic::check::all(&mut checks);
+    aplic::direct_check::all(&mut checks);
     checks.made
 }
 

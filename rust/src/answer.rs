@@ -91,6 +91,15 @@ pub(crate) fn wired(status: u64) -> Result<(), Refusal> {
     }
 }
 
+/// What a call about a hart hands out, or the refusal, whose number is that of a wire change.
+pub(crate) fn of_hart(status: u64, value: u64) -> Result<u64, Refusal> {
+    match wired(status) {
+        Ok(()) => Ok(value),
+        Err(Refusal::Source) => Err(Refusal::Hart),
+        Err(_) => another_version("refusal of a hart", status),
+    }
+}
+
 /// The library answers no number that this crate doesn't name.
 #[cold]
 fn another_version(what: &str, number: u64) -> ! {
@@ -246,11 +255,13 @@ pub enum Refusal {
     Identity,
     /// 2014: wire change of a domain: no source has that number, 1 to 63.
     Source,
+    /// 2014 too: claim or signal of a domain: no hart has that number, 0 to 15.
+    Hart,
 }
 
 impl Refusal {
     /// All refusals, in the order of their numbers.
-    pub const ALL: [Refusal; 10] = [
+    pub const ALL: [Refusal; 11] = [
         Refusal::Window,
         Refusal::Directory,
         Refusal::DeviceId,
@@ -261,6 +272,7 @@ impl Refusal {
         Refusal::File,
         Refusal::Identity,
         Refusal::Source,
+        Refusal::Hart,
     ];
 
     fn from_number(number: u64) -> Refusal {
@@ -279,7 +291,7 @@ impl Refusal {
         }
     }
 
-    /// The refusal's number, larger in the order of the variants.
+    /// The refusal's number, never smaller in the order of the variants.
     pub const fn number(self) -> u64 {
         match self {
             Refusal::Window => 2001,
@@ -291,7 +303,7 @@ impl Refusal {
             Refusal::FileOutside => 2007,
             Refusal::File => 2008,
             Refusal::Identity => 2009,
-            Refusal::Source => 2014,
+            Refusal::Source | Refusal::Hart => 2014,
         }
     }
 }
@@ -309,6 +321,7 @@ impl fmt::Display for Refusal {
             Refusal::File => "no interrupt file of the window is at that address",
             Refusal::Identity => "the identity is above 2,047",
             Refusal::Source => "no source of the domain has that number",
+            Refusal::Hart => "no hart of the domain has that number",
         };
         write!(f, "refused ({}): {why}", self.number())
     }

@@ -69,11 +69,30 @@ mod c {
             out: *mut u64,
             out_length: usize,
         ) -> u64;
+
+        pub fn yasmurekh_aplic_claim(
+            state: *mut u64,
+            state_length: usize,
+            hart: u64,
+            out: *mut u64,
+            out_length: usize,
+        ) -> u64;
+
+        pub fn yasmurekh_aplic_signal(
+            state: *mut u64,
+            state_length: usize,
+            hart: u64,
+            out: *mut u64,
+            out_length: usize,
+        ) -> u64;
     }
 }
 
 /// Words of a domain's state.
-pub const DOMAIN_WORDS: usize = 71;
+pub const DOMAIN_WORDS: usize = 87;
+
+/// The place of the word whose lowest bit is the delivery mode: 0 message, 1 direct.
+pub const DELIVERY_WORD: usize = 7;
 
 /// Flag of a request: a process_id is given.
 const PROCESS: u64 = 1;
@@ -181,27 +200,49 @@ pub fn aplic_write(state: &mut [u64; DOMAIN_WORDS], offset: u64, value: u32) {
     debug_assert_eq!(status, 0);
 }
 
-/// A read of a register: its 32 bits.
-pub fn aplic_read(state: &mut [u64; DOMAIN_WORDS], offset: u64) -> u32 {
+/// A routine of the face that is given one number and hands out one word.
+type Asked = unsafe extern "C" fn(*mut u64, usize, u64, *mut u64, usize) -> u64;
+
+/// Such a routine's status and word.
+fn ask(asked: Asked, state: &mut [u64; DOMAIN_WORDS], number: u64) -> (u64, u64) {
     let mut out = [0; 1];
-    // SAFETY: as in `aplic_wire`; `out` is a local, so the two share no byte.
+    // SAFETY: as in `aplic_wire`, for each of the three that this is called with; `out` is a local, so
+    // the two share no byte.
     let status = unsafe {
-        c::yasmurekh_aplic_read(
+        asked(
             state.as_mut_ptr(),
             state.len(),
-            offset,
+            number,
             out.as_mut_ptr(),
             out.len(),
         )
     };
+    (status, out[0])
+}
+
+/// A read of a register: its 32 bits.
+pub fn aplic_read(state: &mut [u64; DOMAIN_WORDS], offset: u64) -> u32 {
+    let (status, value) = ask(c::yasmurekh_aplic_read, state, offset);
     debug_assert_eq!(status, 0);
-    out[0] as u32
+    value as u32
+}
+
+/// A claim of a hart: the value of its claimi, or the refusal.
+pub fn aplic_claim(state: &mut [u64; DOMAIN_WORDS], hart: u64) -> Result<u64, Refusal> {
+    let (status, value) = ask(c::yasmurekh_aplic_claim, state, hart);
+    answer::of_hart(status, value)
+}
+
+/// Whether a hart is signalled, 1 or 0, or the refusal.
+pub fn aplic_signal(state: &mut [u64; DOMAIN_WORDS], hart: u64) -> Result<u64, Refusal> {
+    let (status, value) = ask(c::yasmurekh_aplic_signal, state, hart);
+    answer::of_hart(status, value)
 }
 
 /// A forward's words: 1 or 0, hart index, guest index, identity.
 pub fn aplic_forward(state: &mut [u64; DOMAIN_WORDS]) -> [u64; 4] {
     let mut out = [0; 4];
-    // SAFETY: as in `aplic_read`.
+    // SAFETY: as in `ask`.
     let status = unsafe {
         c::yasmurekh_aplic_forward(state.as_mut_ptr(), state.len(), out.as_mut_ptr(), out.len())
     };
@@ -211,7 +252,7 @@ pub fn aplic_forward(state: &mut [u64; DOMAIN_WORDS]) -> [u64; 4] {
 
 #[cfg(test)]
 mod tests {
-    use super::{c, DOMAIN_WORDS};
+    use super::{c, DELIVERY_WORD, DOMAIN_WORDS};
 
     /// A request of 4 bytes in mode Off with these flags and access, over one page.
     fn raw_request(flags: u64, access: u64, out: &mut [u64]) -> (u64, [u8; 4096]) {
@@ -298,17 +339,19 @@ mod tests {
         }
     }
 
-    /// The four calls over a state of any length and any words, with these numbers; the statuses.
-    fn four_calls(state: &mut [u64], numbers: [u64; 2], out: &mut [u64]) -> [u64; 4] {
+    /// The six calls over a state of any length and any words, with these numbers; the statuses.
+    fn six_calls(state: &mut [u64], numbers: [u64; 2], out: &mut [u64]) -> [u64; 6] {
         let [first, second] = numbers;
         let (words, length) = (state.as_mut_ptr(), state.len());
         let (given, room) = (out.as_mut_ptr(), out.len());
-        // SAFETY: as in `super::aplic_read`, with a slice's own length.
+        // SAFETY: as in `super::ask`, with a slice's own length.
         unsafe {
             [
                 c::yasmurekh_aplic_wire(words, length, first, second),
                 c::yasmurekh_aplic_write(words, length, first, second as u32),
                 c::yasmurekh_aplic_read(words, length, first, given, room),
+                c::yasmurekh_aplic_claim(words, length, first, given, room),
+                c::yasmurekh_aplic_signal(words, length, first, given, room),
                 c::yasmurekh_aplic_forward(words, length, given, room),
             ]
         }
@@ -316,13 +359,13 @@ mod tests {
 
     #[test]
     fn short_state_changes_nothing() {
-        // Source 0 would be refused: the length is looked at first.
-        for source in [0, 5, 64] {
+        // Source 0 and hart 64 would be refused: the length is looked at first.
+        for number in [0, 5, 64] {
             for length in [0, 1, DOMAIN_WORDS - 1] {
                 let mut state = [u64::MAX; DOMAIN_WORDS];
                 let mut out = [7; 4];
-                let found = four_calls(&mut state[..length], [source, 1], &mut out);
-                assert_eq!((found, out), ([1; 4], [7; 4]));
+                let found = six_calls(&mut state[..length], [number, 1], &mut out);
+                assert_eq!((found, out), ([1; 6], [7; 4]));
                 assert_eq!(state, [u64::MAX; DOMAIN_WORDS]);
             }
         }
@@ -345,12 +388,21 @@ mod tests {
             assert_eq!((status, out), (1, [7; 4]));
             assert_eq!(state, [u64::MAX; DOMAIN_WORDS]);
         }
-        // SAFETY: as in `super::aplic_read`; nothing is read or written through the second pointer.
-        let status = unsafe {
+        let (words, length) = (state.as_mut_ptr(), state.len());
+        // Hart 16 would be refused: the length is looked at first.
+        for number in [0, 16] {
             let nothing = core::ptr::null_mut();
-            c::yasmurekh_aplic_read(state.as_mut_ptr(), state.len(), 0, nothing, 0)
-        };
-        assert_eq!((status, state), (1, [u64::MAX; DOMAIN_WORDS]));
+            // SAFETY: as in `super::ask`; nothing is read or written through the last pointer.
+            let found = unsafe {
+                [
+                    c::yasmurekh_aplic_read(words, length, number, nothing, 0),
+                    c::yasmurekh_aplic_claim(words, length, number, nothing, 0),
+                    c::yasmurekh_aplic_signal(words, length, number, nothing, 0),
+                ]
+            };
+            assert_eq!(found, [1; 3]);
+        }
+        assert_eq!(state, [u64::MAX; DOMAIN_WORDS]);
     }
 
     #[test]
@@ -384,14 +436,17 @@ mod tests {
             }
             let end = [0, 1, 2, 3, 4].map(|place| state[DOMAIN_WORDS + place]);
             let mut out = [7; 6];
-            let mut number = numbers.any() % 0x4200;
+            let mut number = numbers.any() % 0x4300;
             if round % 4 == 0 {
                 number = numbers.any();
             }
-            let found = four_calls(&mut state, [number, numbers.any()], &mut out);
+            let mode = state[DELIVERY_WORD];
+            let found = six_calls(&mut state, [number, numbers.any()], &mut out);
             let wire = if (1..64).contains(&number) { 0 } else { 2014 };
-            assert_eq!(found, [wire, 0, 0, 0]);
+            let hart = if number < 16 { 0 } else { 2014 };
+            assert_eq!(found, [wire, 0, 0, hart, hart, 0]);
             assert_eq!(state[DOMAIN_WORDS..], end);
+            assert_eq!(state[DELIVERY_WORD], mode);
             assert_eq!(out[4..], [7, 7]);
             assert!(out[0] <= 1 && out[0] == 1 || out[..4] == [0; 4]);
         }

@@ -19,7 +19,8 @@
 //! bits, so the message mask and pattern have 47.
 //!
 //! Devices that signal by a wire have a domain of an interrupt controller of their own, which makes
-//! messages of their signals: [`aplic::Domain`]. It has nothing to do with a window.
+//! messages of their signals, or signals harts itself: [`aplic::Domain`]. It has nothing to do with a
+//! window.
 //!
 //! # Example
 //!

@@ -375,7 +375,7 @@ fn an_empty_window_and_one_at_the_top() {
 #[test]
 fn numbers_and_words() {
     let numbers = Refusal::ALL.iter().map(|refusal| refusal.number());
-    assert!(numbers.eq((2001..=2009).chain([2014])));
+    assert!(numbers.eq((2001..=2009).chain([2014, 2014])));
     for (place, stage) in Stage::ALL.iter().enumerate() {
         assert_eq!(stage.number(), place as u64);
     }

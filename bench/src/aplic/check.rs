@@ -9,6 +9,7 @@ fn numbers(answer: Answer) -> Forwarded {
         Answer::Done | Answer::Forwarded(None) => [0; 4],
         Answer::Refused(number) => [number, 0, 0, 0],
         Answer::Value(value) => [u64::from(value), 0, 0, 0],
+        Answer::Signalled(signalled) => [u64::from(signalled), 0, 0, 0],
         Answer::Forwarded(Some(message)) => [
             1,
             u64::from(message.hart_index),
@@ -27,6 +28,8 @@ fn answer<P: Program>(state: &mut State, call: &Call) -> Forwarded {
             [0; 4]
         }
         Call::Forward => P::forward(state),
+        Call::Claim { hart } => [P::claim(state, hart), 0, 0, 0],
+        Call::Signal { hart } => [P::signal(state, hart), 0, 0, 0],
     }
 }
 
@@ -34,9 +37,10 @@ fn answer<P: Program>(state: &mut State, call: &Call) -> Forwarded {
 pub fn check(seed: u64, lists: u64) -> Result<usize, String> {
     let mut calls = 0;
     for index in 0..lists {
-        let mut reference = Domain::new();
-        let mut state = State::new();
-        for call in list(seed, index) {
+        let list = list(seed, index);
+        let mut reference = Domain::new(list.delivery);
+        let mut state = State::new(list.delivery);
+        for call in list.calls {
             let expected = numbers(reference.run(&call));
             let proved = answer::<Proved>(&mut state, &call);
             let plain = answer::<Plain>(&mut state, &call);

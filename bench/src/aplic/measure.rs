@@ -24,25 +24,40 @@ const fn side<P: Program>(name: &'static str) -> Side {
 /// The proved library, then the plain program.
 pub const BOTH: [Side; 2] = [side::<Proved>("proved"), side::<Plain>("plain")];
 
-/// One call's answer; what isn't a forward's has one number.
-#[inline]
-fn once<P: Program>(state: &mut State, call: &Call) -> Forwarded {
+/// The one number that a call of this kind answers; a forward has four.
+#[inline(always)]
+fn number<P: Program>(kind: Kind, state: &mut State, call: &Call) -> u64 {
     let number = u64::from(call.number);
-    match call.kind {
-        Kind::Wire => [P::wire(state, number, call.value != 0), 0, 0, 0],
-        Kind::Read => [P::read(state, number), 0, 0, 0],
+    match kind {
+        Kind::Wire => P::wire(state, number, call.value != 0),
+        Kind::Read => P::read(state, number),
         Kind::Write => {
             P::write(state, number, call.value);
-            [0; 4]
+            0
         }
-        Kind::Forward => P::forward(state),
+        Kind::Claim => P::claim(state, number),
+        Kind::Signal => P::signal(state, number),
+        Kind::Forward => 0,
     }
 }
 
-/// All numbers of an answer count, so that none is left uncomputed.
-#[inline]
-fn summed(sum: u64, [first, second, third, fourth]: Forwarded) -> u64 {
-    let answer = first ^ second.rotate_left(8) ^ third.rotate_left(16) ^ fourth.rotate_left(24);
+fn once<P: Program>(state: &mut State, call: &Call) -> Forwarded {
+    match call.kind {
+        Kind::Forward => P::forward(state),
+        kind => [number::<P>(kind, state, call), 0, 0, 0],
+    }
+}
+
+/// The sum with a call's answer. All numbers of an answer count, so that none is left uncomputed.
+#[inline(always)]
+fn summed<P: Program>(kind: Kind, state: &mut State, sum: u64, call: &Call) -> u64 {
+    let answer = match kind {
+        Kind::Forward => {
+            let [first, second, third, fourth] = P::forward(state);
+            first ^ second.rotate_left(8) ^ third.rotate_left(16) ^ fourth.rotate_left(24)
+        }
+        kind => number::<P>(kind, state, call),
+    };
     sum.wrapping_add(answer)
 }
 
@@ -52,18 +67,17 @@ fn summed(sum: u64, [first, second, third, fourth]: Forwarded) -> u64 {
 fn run<P: Program>(row: &Row, state: &mut State) -> u64 {
     let calls = row.calls.iter();
     match row.kind {
-        Some(Kind::Wire) => calls.fold(0, |sum, call| {
-            sum.wrapping_add(P::wire(state, u64::from(call.number), call.value != 0))
-        }),
-        Some(Kind::Read) => calls.fold(0, |sum, call| {
-            sum.wrapping_add(P::read(state, u64::from(call.number)))
-        }),
-        Some(Kind::Write) => {
-            calls.for_each(|call| P::write(state, u64::from(call.number), call.value));
-            0
+        Some(Kind::Wire) => calls.fold(0, |sum, call| summed::<P>(Kind::Wire, state, sum, call)),
+        Some(Kind::Read) => calls.fold(0, |sum, call| summed::<P>(Kind::Read, state, sum, call)),
+        Some(Kind::Write) => calls.fold(0, |sum, call| summed::<P>(Kind::Write, state, sum, call)),
+        Some(Kind::Forward) => {
+            calls.fold(0, |sum, call| summed::<P>(Kind::Forward, state, sum, call))
         }
-        Some(Kind::Forward) => calls.fold(0, |sum, _| summed(sum, P::forward(state))),
-        None => calls.fold(0, |sum, call| summed(sum, once::<P>(state, call))),
+        Some(Kind::Claim) => calls.fold(0, |sum, call| summed::<P>(Kind::Claim, state, sum, call)),
+        Some(Kind::Signal) => {
+            calls.fold(0, |sum, call| summed::<P>(Kind::Signal, state, sum, call))
+        }
+        None => calls.fold(0, |sum, call| summed::<P>(call.kind, state, sum, call)),
     }
 }
 
@@ -76,7 +90,7 @@ impl Measured for Row {
     }
 
     fn start(&self) -> State {
-        let mut state = State::new();
+        let mut state = State::new(self.delivery);
         for call in &self.set_up {
             for side in BOTH {
                 (side.once)(&mut state, call);

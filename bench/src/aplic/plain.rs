@@ -1,11 +1,16 @@
 //! The same job as the proved library's wired domain, in plain safe Rust written for speed.
 //!
 //! What a source has of one bit stands in words with a bit for each source, so that a rule is a few
-//! operations on words, for one source as for all.
+//! operations on words, for one source as for all. Each hart has such a word of the sources that are
+//! targeted to it.
 
 /// A wire number that no source has.
 #[derive(Clone, Copy, Debug)]
 pub struct NoSource;
+
+/// A number that no hart has.
+#[derive(Clone, Copy, Debug)]
+pub struct NoHart;
 
 #[derive(Clone, Copy, Debug)]
 pub struct Message {
@@ -28,14 +33,29 @@ pub struct Domain {
     inverted: u64,
     modes: [u8; 64],
     targets: [u32; 64],
+    direct: bool,
+    harts: [Hart; 16],
 }
 
-/// Bit 11 of a target is reserved.
-const TARGET: u32 = !(1 << 11);
+/// A hart; nothing but zeros in message delivery.
+#[derive(Clone, Copy, Debug, Default)]
+struct Hart {
+    delivery: bool,
+    force: bool,
+    threshold: u8,
+    /// The sources that are targeted to it.
+    aimed: u64,
+}
+
+/// Bits of a target that aren't reserved.
+const MESSAGE_TARGET: u32 = !(1 << 11);
+const DIRECT_TARGET: u32 = 0xFFFC_00FF;
 
 impl Domain {
-    pub fn new() -> Domain {
+    pub fn new(direct: bool) -> Domain {
         Domain {
+            direct,
+            harts: [Hart::default(); 16],
             enable: false,
             wire: 0,
             pending: 0,
@@ -67,12 +87,12 @@ impl Domain {
     }
 
     #[inline(never)]
-    pub fn read(&self, offset: u64) -> u32 {
+    pub fn read(&mut self, offset: u64) -> u32 {
         if offset & 3 != 0 {
             return 0;
         }
         match offset {
-            0x0000 => 0x8000_0004 | u32::from(self.enable) << 8,
+            0x0000 => 0x8000_0000 | u32::from(self.enable) << 8 | u32::from(!self.direct) << 2,
             0x0004..=0x00FC => u32::from(self.modes[(offset / 4) as usize & 63]),
             0x1C00 => self.pending as u32,
             0x1C04 => (self.pending >> 32) as u32,
@@ -81,6 +101,24 @@ impl Domain {
             0x1E00 => self.enabled as u32,
             0x1E04 => (self.enabled >> 32) as u32,
             0x3004..=0x30FC => self.targets[(offset / 4) as usize & 63],
+            0x4000..=0x41FC => self.read_hart(offset),
+            _ => 0,
+        }
+    }
+
+    #[inline]
+    fn read_hart(&mut self, offset: u64) -> u32 {
+        if !self.direct {
+            return 0;
+        }
+        let number = (offset / 32) as usize & 15;
+        let hart = &self.harts[number];
+        match offset & 31 {
+            0x00 => u32::from(hart.delivery),
+            0x04 => u32::from(hart.force),
+            0x08 => u32::from(hart.threshold),
+            0x18 => self.top(number),
+            0x1C => self.claim_top(number),
             _ => 0,
         }
     }
@@ -96,9 +134,9 @@ impl Domain {
             0x1C00 => self.set_pending(u64::from(value)),
             0x1C04 => self.set_pending(u64::from(value) << 32),
             0x1CDC | 0x2000 => self.set_pending(numbered(value)),
-            0x1D00 => self.pending &= !u64::from(value),
-            0x1D04 => self.pending &= !(u64::from(value) << 32),
-            0x1DDC => self.pending &= !numbered(value),
+            0x1D00 => self.clear_pending(u64::from(value)),
+            0x1D04 => self.clear_pending(u64::from(value) << 32),
+            0x1DDC => self.clear_pending(numbered(value)),
             0x1E00 => self.enabled |= u64::from(value) & self.active,
             0x1E04 => self.enabled |= u64::from(value) << 32 & self.active,
             0x1EDC => self.enabled |= numbered(value) & self.active,
@@ -108,17 +146,56 @@ impl Domain {
             0x3004..=0x30FC => {
                 let source = (offset / 4) as usize & 63;
                 if self.active >> source & 1 == 1 {
-                    self.targets[source] = value & TARGET;
+                    self.aim(source, value);
+                }
+            }
+            0x4000..=0x41FC if self.direct => {
+                let hart = &mut self.harts[(offset / 32) as usize & 15];
+                match offset & 31 {
+                    0x00 => hart.delivery = value & 1 != 0,
+                    0x04 => hart.force = value & 1 != 0,
+                    0x08 => hart.threshold = value as u8,
+                    _ => {}
                 }
             }
             _ => {}
         }
     }
 
-    /// A level is set only while its input is high.
+    /// A level is set only while its input is high; in direct delivery it is then set already.
     #[inline]
     fn set_pending(&mut self, sources: u64) {
         self.pending |= sources & self.active & !(self.level & !self.rectified());
+    }
+
+    /// In direct delivery a level isn't cleared.
+    #[inline]
+    fn clear_pending(&mut self, sources: u64) {
+        let held = if self.direct { self.level } else { 0 };
+        self.pending &= !(sources & !held);
+    }
+
+    /// Gives an active source a target.
+    #[inline]
+    fn aim(&mut self, source: usize, value: u32) {
+        if !self.direct {
+            self.targets[source] = value & MESSAGE_TARGET;
+            return;
+        }
+        self.aim_nowhere(source);
+        let value = value & DIRECT_TARGET;
+        self.targets[source] = value | u32::from(value & 0xFF == 0);
+        if let Some(hart) = self.harts.get_mut((value >> 18) as usize) {
+            hart.aimed |= 1 << source;
+        }
+    }
+
+    #[inline]
+    fn aim_nowhere(&mut self, source: usize) {
+        if let Some(hart) = self.harts.get_mut((self.targets[source] >> 18) as usize) {
+            hart.aimed &= !(1 << source);
+        }
+        self.targets[source] = 0;
     }
 
     fn configure(&mut self, source: usize, value: u32) {
@@ -129,6 +206,7 @@ impl Domain {
             mode => mode,
         };
         let put = |word: u64, one: bool| word & !bit | u64::from(one) << source;
+        let was_active = self.active & bit != 0;
         self.modes[source] = mode as u8;
         self.active = put(self.active, mode != 0);
         self.attached = put(self.attached, mode >= 4);
@@ -139,14 +217,16 @@ impl Domain {
         if mode == 0 {
             self.pending &= !bit;
             self.enabled &= !bit;
-            self.targets[source] = 0;
+            self.aim_nowhere(source);
+        } else if !was_active {
+            self.aim(source, 0);
         }
     }
 
     #[inline(never)]
     pub fn forward(&mut self) -> Option<Message> {
         let waiting = self.pending & self.enabled;
-        if !self.enable || waiting == 0 {
+        if !self.enable || waiting == 0 || self.direct {
             return None;
         }
         self.pending &= !(waiting & waiting.wrapping_neg());
@@ -156,6 +236,58 @@ impl Domain {
             guest_index: target >> 12 & 0x3F,
             identity: target & 0x7FF,
         })
+    }
+
+    /// The value of topi: of the sources that wait below the threshold the lowest priority number, and
+    /// of equal ones the lowest source, which comes first here.
+    #[inline]
+    fn top(&self, number: usize) -> u32 {
+        let hart = &self.harts[number];
+        let mut waiting = self.pending & self.enabled & hart.aimed;
+        let mut best = match hart.threshold {
+            0 => 256,
+            threshold => u32::from(threshold),
+        };
+        let mut top = 0;
+        while waiting != 0 {
+            let source = waiting.trailing_zeros();
+            let priority = self.targets[source as usize & 63] & 0xFF;
+            if priority < best {
+                best = priority;
+                top = source << 16 | priority;
+            }
+            waiting &= waiting - 1;
+        }
+        top
+    }
+
+    #[inline]
+    fn claim_top(&mut self, number: usize) -> u32 {
+        let top = self.top(number);
+        match top {
+            0 => self.harts[number].force = false,
+            _ => self.clear_pending(1 << (top >> 16)),
+        }
+        top
+    }
+
+    #[inline(never)]
+    pub fn claim(&mut self, hart: u64) -> Result<u32, NoHart> {
+        match hart {
+            0..16 if self.direct => Ok(self.claim_top(hart as usize)),
+            0..16 => Ok(0),
+            _ => Err(NoHart),
+        }
+    }
+
+    #[inline(never)]
+    pub fn signal(&self, hart: u64) -> Result<bool, NoHart> {
+        if hart >= 16 {
+            return Err(NoHart);
+        }
+        let number = hart as usize & 15;
+        let hart = &self.harts[number];
+        Ok(self.enable && hart.delivery && (hart.force || self.top(number) != 0))
     }
 }
 

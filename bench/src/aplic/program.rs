@@ -2,10 +2,14 @@
 
 use super::plain;
 
-/// Words of a domain's state in the archive.
-const WORDS: usize = 71;
+use yasmurekh_reference::aplic::Delivery;
 
-/// The status of a refused wire.
+/// Words of a domain's state in the archive.
+const WORDS: usize = 87;
+/// The place of the word that is 1 where delivery is direct.
+const DELIVERY: usize = 7;
+
+/// The status of a refused wire, claim or signal.
 const REFUSED: u64 = 2014;
 
 /// A domain at reset for each program.
@@ -16,10 +20,13 @@ pub struct State {
 }
 
 impl State {
-    pub fn new() -> State {
+    pub fn new(delivery: Delivery) -> State {
+        let direct = delivery == Delivery::Direct;
+        let mut words = [0; WORDS];
+        words[DELIVERY] = u64::from(direct);
         State {
-            words: [0; WORDS],
-            plain: plain::Domain::new(),
+            words,
+            plain: plain::Domain::new(direct),
         }
     }
 }
@@ -32,6 +39,10 @@ pub trait Program {
     fn write(state: &mut State, offset: u64, value: u32);
     fn read(state: &mut State, offset: u64) -> u64;
     fn forward(state: &mut State) -> Forwarded;
+    /// The value, or the refusal, which is no value.
+    fn claim(state: &mut State, hart: u64) -> u64;
+    /// 1, 0 or the refusal.
+    fn signal(state: &mut State, hart: u64) -> u64;
 }
 
 /// The proved library, through its archive.
@@ -59,6 +70,43 @@ extern "C" {
         out: *mut u64,
         out_len: usize,
     ) -> u64;
+
+    fn yasmurekh_aplic_claim(
+        state: *mut u64,
+        state_len: usize,
+        hart: u64,
+        out: *mut u64,
+        out_len: usize,
+    ) -> u64;
+
+    fn yasmurekh_aplic_signal(
+        state: *mut u64,
+        state_len: usize,
+        hart: u64,
+        out: *mut u64,
+        out_len: usize,
+    ) -> u64;
+}
+
+/// A routine of the archive that is given one number and hands out one word.
+type Asked = unsafe extern "C" fn(*mut u64, usize, u64, *mut u64, usize) -> u64;
+
+/// Such a routine's word, or its status where that isn't 0.
+#[inline(always)]
+fn ask(asked: Asked, state: &mut State, number: u64) -> u64 {
+    let words = &mut state.words;
+    let mut out = [0; 1];
+    // Sound: the words and `out`, a local, are lent whole, each with its length.
+    let status = unsafe {
+        asked(
+            words.as_mut_ptr(),
+            WORDS,
+            number,
+            out.as_mut_ptr(),
+            out.len(),
+        )
+    };
+    status | out[0]
 }
 
 impl Program for Proved {
@@ -78,19 +126,17 @@ impl Program for Proved {
 
     #[inline]
     fn read(state: &mut State, offset: u64) -> u64 {
-        let words = &mut state.words;
-        let mut out = [0; 1];
-        // Sound: as above, and `out` is a local, lent whole with its length.
-        unsafe {
-            yasmurekh_aplic_read(
-                words.as_mut_ptr(),
-                WORDS,
-                offset,
-                out.as_mut_ptr(),
-                out.len(),
-            )
-        };
-        out[0]
+        ask(yasmurekh_aplic_read, state, offset)
+    }
+
+    #[inline]
+    fn claim(state: &mut State, hart: u64) -> u64 {
+        ask(yasmurekh_aplic_claim, state, hart)
+    }
+
+    #[inline]
+    fn signal(state: &mut State, hart: u64) -> u64 {
+        ask(yasmurekh_aplic_signal, state, hart)
     }
 
     #[inline]
@@ -120,6 +166,22 @@ impl Program for Plain {
     #[inline]
     fn read(state: &mut State, offset: u64) -> u64 {
         u64::from(state.plain.read(offset))
+    }
+
+    #[inline]
+    fn claim(state: &mut State, hart: u64) -> u64 {
+        match state.plain.claim(hart) {
+            Ok(value) => u64::from(value),
+            Err(plain::NoHart) => REFUSED,
+        }
+    }
+
+    #[inline]
+    fn signal(state: &mut State, hart: u64) -> u64 {
+        match state.plain.signal(hart) {
+            Ok(signalled) => u64::from(signalled),
+            Err(plain::NoHart) => REFUSED,
+        }
     }
 
     #[inline]

@@ -3,7 +3,9 @@
 use std::fmt;
 
 use yasmurekh_reference::aplic::text::{write_answer, write_call, write_list};
-use yasmurekh_reference::aplic::{list, Answer, Call, Coverage, Domain, Mask, Mode, Register};
+use yasmurekh_reference::aplic::{
+    list, Answer, Call, Coverage, Delivery, Domain, HartRegister, List, Mask, Mode, Register,
+};
 
 use crate::aplic::shrink::shrink;
 use crate::aplic::side::Side;
@@ -20,10 +22,12 @@ pub enum Difference {
     },
     /// The library's state isn't what it was, and the call may change nothing.
     Changed { call: usize },
-    /// All registers read out after so many calls: a value differs.
-    Register {
+    /// The library's state isn't what it was before it was read out after so many calls.
+    ReadOutChanged { calls: usize },
+    /// All registers and signals read out after so many calls: a value differs.
+    ReadOut {
         calls: usize,
-        register: Register,
+        call: Call,
         library: Answer,
         reference: Answer,
     },
@@ -41,6 +45,10 @@ impl fmt::Display for Difference {
             Difference::Changed { call } => {
                 return write!(f, "call {call}: the library's state changed");
             }
+            Difference::ReadOutChanged { calls } => {
+                let what = "reading all registers changed the library's state";
+                return write!(f, "after {calls} calls, {what}");
+            }
             Difference::Answer {
                 call,
                 library,
@@ -49,13 +57,13 @@ impl fmt::Display for Difference {
                 write!(f, "call {call}: ")?;
                 (library, reference)
             }
-            Difference::Register {
+            Difference::ReadOut {
                 calls,
-                register,
+                call,
                 library,
                 reference,
             } => {
-                write!(f, "after {calls} calls, {}: ", register.name())?;
+                write!(f, "after {calls} calls, {}: ", name(call))?;
                 (library, reference)
             }
             Difference::Wires {
@@ -73,15 +81,25 @@ impl fmt::Display for Difference {
     }
 }
 
+/// A register's name where it is read, else the call.
+fn name(call: &Call) -> String {
+    let register = match call {
+        Call::Read { offset } => Register::at(*offset),
+        _ => None,
+    };
+    register.map_or_else(|| write_call(call), Register::name)
+}
+
 /// How many calls are made between two times that all registers are read out.
 const INTERVAL: usize = 8;
 
-/// Both sides: the library's domain at reset, and the reference with what its calls meet, if asked.
+/// Both sides: the library's domain, and the reference with what its calls meet, if asked.
 #[derive(Clone, Debug)]
 pub struct Comparison<L> {
-    start: L,
+    side: L,
     pub coverage: Option<Coverage>,
-    registers: Vec<Register>,
+    /// What is read out: every register but claimi, whose read changes something, and every signal.
+    shown: Vec<Call>,
 }
 
 /// The two domains of a list that runs.
@@ -99,24 +117,32 @@ impl<L: Side> Pair<L> {
 }
 
 impl<L: Side> Comparison<L> {
-    pub fn new(start: L, coverage: Option<Coverage>) -> Self {
+    pub fn new(side: L, coverage: Option<Coverage>) -> Self {
+        let registers = Register::all().into_iter();
+        let shown = registers
+            .filter(|register| !matches!(register, Register::Hart(_, HartRegister::Claimi)));
+        let reads = shown.map(|register| Call::Read {
+            offset: register.offset(),
+        });
+        let signals = (0..16).map(|hart| Call::Signal { hart });
         Comparison {
-            start,
+            side,
             coverage,
-            registers: Register::all(),
+            shown: reads.chain(signals).collect(),
         }
     }
 
-    /// Runs a list through both sides; gives the number of registers read out.
+    /// Runs a list through both sides; gives the number of registers and signals read out.
     ///
     /// After each call the answers are compared, and the library's state with that before the call
-    /// where nothing may change. At intervals and at the end all registers are read out of both; then
-    /// the wires, which no register shows of an inactive or detached source.
-    pub fn list(&mut self, calls: &[Call]) -> Result<u64, Difference> {
+    /// where nothing may change. At intervals and at the end all registers and signals are read out of
+    /// both; then the wires, which no register shows of an inactive or detached source.
+    pub fn list(&mut self, list: &List) -> Result<u64, Difference> {
         let mut pair = Pair {
-            library: self.start.clone(),
-            reference: Domain::new(),
+            library: self.side.reset(list.delivery),
+            reference: Domain::new(list.delivery),
         };
+        let calls = &list.calls;
         let mut times = 1;
         for (number, call) in calls.iter().enumerate() {
             self.call(&mut pair, number, call)?;
@@ -127,11 +153,12 @@ impl<L: Side> Comparison<L> {
         }
         self.read_out(&mut pair, calls.len())?;
         wires(&mut pair)?;
-        Ok(times * self.registers.len() as u64)
+        Ok(times * self.shown.len() as u64)
     }
 
     fn call(&mut self, pair: &mut Pair<L>, number: usize, call: &Call) -> Result<(), Difference> {
         let before = pair.library.clone();
+        let was = is_claim(call).then(|| pair.reference.clone());
         let library = pair.library.call(call);
         let reference = match &mut self.coverage {
             None => pair.reference.run(call),
@@ -144,35 +171,60 @@ impl<L: Side> Comparison<L> {
                 reference,
             });
         }
-        if changes_nothing(call, reference) && before != pair.library {
+        let delivery = pair.reference.delivery();
+        let nothing_changes = match was {
+            Some(was) => was == pair.reference,
+            None => changes_nothing(call, reference, delivery),
+        };
+        if nothing_changes && before != pair.library {
             return Err(Difference::Changed { call: number });
         }
         Ok(())
     }
 
-    /// Every register of both sides.
+    /// Every register of both sides, and every signal; none of it changes the library's state.
     fn read_out(&self, pair: &mut Pair<L>, calls: usize) -> Result<(), Difference> {
-        for register in &self.registers {
-            let offset = register.offset();
-            if let Some([library, reference]) = pair.differ(&Call::Read { offset }) {
-                return Err(Difference::Register {
+        let before = pair.library.clone();
+        for call in &self.shown {
+            if let Some([library, reference]) = pair.differ(call) {
+                return Err(Difference::ReadOut {
                     calls,
-                    register: *register,
+                    call: *call,
                     library,
                     reference,
                 });
             }
         }
-        Ok(())
+        match before == pair.library {
+            true => Ok(()),
+            false => Err(Difference::ReadOutChanged { calls }),
+        }
     }
 }
 
-/// Reads, refusals, forwards of nothing, and writes where no register is.
-fn changes_nothing(call: &Call, answer: Answer) -> bool {
+/// Claims, and reads of claimi; whether one changes anything is seen from the reference.
+fn is_claim(call: &Call) -> bool {
+    match call {
+        Call::Claim { .. } => true,
+        Call::Read { offset } => matches!(
+            Register::at(*offset),
+            Some(Register::Hart(_, HartRegister::Claimi))
+        ),
+        _ => false,
+    }
+}
+
+/// Signals, reads, refusals, forwards of nothing, and writes where nothing can be written.
+fn changes_nothing(call: &Call, answer: Answer, delivery: Delivery) -> bool {
     match (call, answer) {
-        (Call::Write { offset, .. }, _) => Register::at(*offset).is_none(),
+        (_, Answer::Refused(_) | Answer::Forwarded(None) | Answer::Signalled(_)) => true,
         (Call::Read { .. }, _) => true,
-        (_, Answer::Refused(_) | Answer::Forwarded(None)) => true,
+        (Call::Write { offset, .. }, _) => match Register::at(*offset) {
+            None => true,
+            Some(Register::Hart(_, HartRegister::Topi | HartRegister::Claimi)) => true,
+            Some(Register::Hart(..)) => delivery == Delivery::Message,
+            Some(_) => false,
+        },
         _ => false,
     }
 }
@@ -199,28 +251,28 @@ fn wires<L: Side>(pair: &mut Pair<L>) -> Result<(), Difference> {
 }
 
 impl<L: Side> Subject for Comparison<L> {
-    type List = Vec<Call>;
+    type List = List;
     type Difference = Difference;
 
-    fn list(seed: u64, index: u64, calls: usize) -> Vec<Call> {
+    fn list(seed: u64, index: u64, calls: usize) -> List {
         let mut list = list(seed, index);
-        list.truncate(calls);
+        list.calls.truncate(calls);
         list
     }
 
-    fn calls(list: &Vec<Call>) -> usize {
-        list.len()
+    fn calls(list: &List) -> usize {
+        list.calls.len()
     }
 
-    fn compare(&mut self, list: &Vec<Call>) -> Result<u64, Difference> {
+    fn compare(&mut self, list: &List) -> Result<u64, Difference> {
         self.list(list)
     }
 
-    fn shrink(list: Vec<Call>, holds: impl FnMut(&Vec<Call>) -> bool) -> Vec<Call> {
+    fn shrink(list: List, holds: impl FnMut(&List) -> bool) -> List {
         shrink(list, holds)
     }
 
-    fn text(index: u64, list: &Vec<Call>) -> String {
+    fn text(index: u64, list: &List) -> String {
         write_list(index, list)
     }
 }

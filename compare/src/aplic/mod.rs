@@ -1,4 +1,4 @@
-//! The wired domain: the library compared with the reference's table of separate sources.
+//! The wired domain: the library compared with the reference's tables of separate sources and harts.
 
 pub mod comparison;
 pub mod shrink;

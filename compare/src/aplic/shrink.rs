@@ -1,38 +1,39 @@
 //! Makes a list of a domain's calls smaller while something about it stays true.
 
-use yasmurekh_reference::aplic::Call;
+use yasmurekh_reference::aplic::{Call, Delivery, List};
 
 use crate::shrink::{drop_runs, simpler_numbers};
 
 /// The smallest list found for which `holds` is true. It must be true of the list given.
 ///
 /// Every step that is kept leaves fewer calls, or as many with a smaller number or a low wire among
-/// them, so this ends.
-pub fn shrink(mut calls: Vec<Call>, mut holds: impl FnMut(&Vec<Call>) -> bool) -> Vec<Call> {
-    let mut keep = |calls: &mut Vec<Call>, change: &dyn Fn(&mut Vec<Call>)| {
-        let mut changed = calls.clone();
+/// them, or message delivery in the place of direct delivery, so this ends.
+pub fn shrink(mut list: List, mut holds: impl FnMut(&List) -> bool) -> List {
+    let mut keep = |list: &mut List, change: &dyn Fn(&mut List)| {
+        let mut changed = list.clone();
         change(&mut changed);
-        let kept = holds(&changed);
+        let kept = changed != *list && holds(&changed);
         if kept {
-            *calls = changed;
+            *list = changed;
         }
         kept
     };
     loop {
-        let mut smaller = drop_runs(calls.len(), |run| {
-            keep(&mut calls, &|calls| drop(calls.drain(run.clone())))
+        let mut smaller = keep(&mut list, &|list| list.delivery = Delivery::Message);
+        smaller |= drop_runs(list.calls.len(), |run| {
+            keep(&mut list, &|list| drop(list.calls.drain(run.clone())))
         });
-        for place in 0..calls.len() {
+        for place in 0..list.calls.len() {
             // The first simpler form that holds is taken, until none does.
-            while simpler_calls(&calls[place])
+            while simpler_calls(&list.calls[place])
                 .into_iter()
-                .any(|call| keep(&mut calls, &|calls| calls[place] = call))
+                .any(|call| keep(&mut list, &|list| list.calls[place] = call))
             {
                 smaller = true;
             }
         }
         if !smaller {
-            return calls;
+            return list;
         }
     }
 }
@@ -68,5 +69,13 @@ fn simpler_calls(call: &Call) -> Vec<Call> {
                 .collect()
         }
         Call::Forward => Vec::new(),
+        Call::Claim { hart } => {
+            let harts = simpler_numbers(hart).into_iter();
+            harts.map(|hart| Call::Claim { hart }).collect()
+        }
+        Call::Signal { hart } => {
+            let harts = simpler_numbers(hart).into_iter();
+            harts.map(|hart| Call::Signal { hart }).collect()
+        }
     }
 }

@@ -1,44 +1,48 @@
-//! Checks of the domain: cases made by hand from the sentences of 002 and of 02, Req 07.
+//! Checks of the domain: cases made by hand from the sentences of 002 and of 02, Req 07; what direct
+//! delivery adds is in `direct_check`.
 
-use crate::aplic::domain::{Domain, Message};
+use crate::aplic::domain::{Call, Domain, Message};
+use crate::aplic::source::Delivery;
 use crate::check::Checks;
 
 /// Offsets by the numbers of 002, Table 1.
-const SETIP: u64 = 0x1C00;
-const SETIPNUM: u64 = 0x1CDC;
-const IN_CLRIP: u64 = 0x1D00;
-const CLRIPNUM: u64 = 0x1DDC;
+pub const SETIP: u64 = 0x1C00;
+pub const SETIPNUM: u64 = 0x1CDC;
+pub const IN_CLRIP: u64 = 0x1D00;
+pub const CLRIPNUM: u64 = 0x1DDC;
 const SETIE: u64 = 0x1E00;
-const SETIENUM: u64 = 0x1EDC;
+pub const SETIENUM: u64 = 0x1EDC;
 const CLRIE: u64 = 0x1F00;
 const CLRIENUM: u64 = 0x1FDC;
-const SETIPNUM_LE: u64 = 0x2000;
-const TARGET: u64 = 0x3000;
+pub const SETIPNUM_LE: u64 = 0x2000;
+pub const TARGET: u64 = 0x3000;
 
 /// All checks of this file, in order.
 pub fn all(checks: &mut Checks) {
     reset(checks);
-    domaincfg(checks);
-    sourcecfg(checks);
-    rectified(checks);
     for (text, rows) in PENDING {
-        pending(checks, text, rows);
+        pending(checks, Delivery::Message, text, rows);
     }
-    masks(checks);
-    numbers(checks);
-    enables(checks);
     targets(checks);
     made_inactive(checks);
     forwards(checks);
     forward_order(checks);
-    wires(checks);
-    undefined(checks);
     still_asserted(checks);
+    for delivery in Delivery::ALL {
+        domaincfg(checks, delivery);
+        sourcecfg(checks, delivery);
+        rectified(checks, delivery);
+        masks(checks, delivery);
+        numbers(checks, delivery);
+        enables(checks, delivery);
+        wires(checks, delivery);
+        undefined(checks, delivery);
+    }
 }
 
 /// A domain with IE, and source 5 in this mode, enabled.
-fn with_source(mode: u32) -> Domain {
-    let mut domain = Domain::new();
+pub fn with_source(delivery: Delivery, mode: u32) -> Domain {
+    let mut domain = Domain::new(delivery);
     domain.write(0, 0x100);
     domain.write(4 * 5, mode);
     domain.write(SETIENUM, 5);
@@ -47,37 +51,45 @@ fn with_source(mode: u32) -> Domain {
 
 /// 02, Req 07: "All state starts at zero save the delivery mode."
 fn reset(checks: &mut Checks) {
-    let mut domain = Domain::new();
+    let mut domain = Domain::new(Delivery::Message);
     let zero = (1..0x1_0000).all(|offset| domain.read(offset) == 0);
     checks.holds("domain at reset: every register but domaincfg is 0", zero);
     let domaincfg = domain.read(0) == 0x8000_0004;
     checks.holds("domain at reset: domaincfg is 0x80000004", domaincfg);
-    let none = domain.forward().is_none() && domain == Domain::new();
+    let none = domain.forward().is_none() && domain == Domain::new(Delivery::Message);
     checks.holds("domain at reset: a forward answers none", none);
 }
 
-/// 002, 4.1.5.1.
-fn domaincfg(checks: &mut Checks) {
-    let mut domain = Domain::new();
-    for (written, read) in [
-        (0xFFFF_FFFF, 0x8000_0104),
-        (0xFFFF_FEFF, 0x8000_0004),
-        (0x0000_0100, 0x8000_0104),
-        (0x0000_0000, 0x8000_0004),
-        (0x0101_0101, 0x8000_0104),
+/// 002, 4.1.5.1: DM is 1 in MSI delivery mode, 0 in direct delivery mode; 02, Req 08: "The mode is fixed".
+fn domaincfg(checks: &mut Checks, delivery: Delivery) {
+    let mut domain = Domain::new(delivery);
+    let fixed = match delivery {
+        Delivery::Message => 0x8000_0004,
+        Delivery::Direct => 0x8000_0000,
+    };
+    for (written, enable) in [
+        (0xFFFF_FFFF, 0x100),
+        (0xFFFF_FEFF, 0),
+        (0x0000_0100, 0x100),
+        (0x0000_0000, 0),
+        (0x0101_0101, 0x100),
+        (0x0000_0004, 0),
+        (0x0000_0104, 0x100),
     ] {
         domain.write(0, written);
-        let name = format!("domaincfg written {written:#x} reads {read:#x}");
+        let read = fixed | enable;
+        let mode = delivery.name();
+        let name = format!("{mode}: domaincfg written {written:#x} reads {read:#x}");
         checks.holds(&name, domain.read(0) == read);
     }
 }
 
 /// 002, 4.1.5.2, Table 2 and bit 10; 02, Req 07: "a reserved source mode is kept as 0".
-fn sourcecfg(checks: &mut Checks) {
+fn sourcecfg(checks: &mut Checks, delivery: Delivery) {
     for (sm, kept) in [0, 1, 0, 0, 4, 5, 6, 7].into_iter().enumerate() {
         let sm = sm as u32;
         let holds = [4, 4 * 63].into_iter().all(|offset| {
-            let mut domain = Domain::new();
+            let mut domain = Domain::new(delivery);
             let mut reads = |value: u32| {
                 domain.write(offset, value);
                 domain.read(offset)
@@ -86,12 +98,13 @@ fn sourcecfg(checks: &mut Checks) {
             // Bit 10 in a leaf domain sets the entire register to zero, from any mode.
             plain && reads(sm | 0x400) == 0 && reads(sm | 0xFFFF_FFF8) == 0
         });
-        checks.holds(&format!("sourcecfg, SM {sm} is kept as {kept}"), holds);
+        let name = format!("{}: sourcecfg, SM {sm} is kept as {kept}", delivery.name());
+        checks.holds(&name, holds);
     }
 }
 
 /// 002, 4.1.5.2: the rectified input of each mode, the wire low and high, as in_clrip reads it.
-fn rectified(checks: &mut Checks) {
+fn rectified(checks: &mut Checks, delivery: Delivery) {
     for (mode, low, high) in [
         (0, 0, 0),
         (1, 0, 0),
@@ -101,7 +114,7 @@ fn rectified(checks: &mut Checks) {
         (7, 1, 0),
     ] {
         let read = |source: u64, level: bool| {
-            let mut domain = Domain::new();
+            let mut domain = Domain::new(delivery);
             domain.write(4 * source, mode);
             let _ = domain.wire(source, level);
             domain.read(IN_CLRIP + source / 32 * 4)
@@ -110,15 +123,18 @@ fn rectified(checks: &mut Checks) {
             let found = [read(source, false), read(source, true)];
             found == [low << (source % 32), high << (source % 32)]
         });
-        let name = format!("mode {mode}: rectified input {low} under low, {high} under high");
+        let name = format!(
+            "{}: mode {mode}: rectified input {low} under low, {high} under high",
+            delivery.name()
+        );
         checks.holds(&name, holds);
     }
 }
 
 /// What is done to source 5, step by step, and its pending bit then: l and h change its wire, a digit
 /// is written to its sourcecfg, s to setip, n to setipnum, e to setipnum_le, c to in_clrip, m to
-/// clripnum, f forwards.
-type Steps = (&'static str, u32);
+/// clripnum, f forwards, k claims for hart 0, r reads claimi of hart 0.
+pub type Steps = (&'static str, u32);
 
 /// Sentences of 002, 4.1.7 and 4.1.5.2, each with rows.
 const PENDING: &[(&str, &[Steps])] = &[
@@ -233,14 +249,15 @@ const PENDING: &[(&str, &[Steps])] = &[
     ),
 ];
 
-fn pending(checks: &mut Checks, text: &str, rows: &[Steps]) {
+pub fn pending(checks: &mut Checks, delivery: Delivery, text: &str, rows: &[Steps]) {
     for (steps, expected) in rows {
-        let mut domain = with_source(0);
+        let mut domain = with_source(delivery, 0);
         for step in steps.chars() {
             take_step(&mut domain, step);
         }
         let found = domain.read(SETIP);
-        let name = format!("{text}: {steps} gives {expected}");
+        let mode = delivery.name();
+        let name = format!("{mode}: {text}: {steps} gives {expected}");
         checks.holds(&name, found == expected << 5);
     }
 }
@@ -255,23 +272,30 @@ fn take_step(domain: &mut Domain, step: char) {
         'e' => domain.write(SETIPNUM_LE, 5),
         'c' => domain.write(IN_CLRIP, 1 << 5),
         'm' => domain.write(CLRIPNUM, 5),
-        'f' => {
+        'f' | 'k' | 'r' => {
             // Enabled only now: a source that is made active isn't.
             domain.write(SETIENUM, 5);
-            domain.forward();
+            domain.run(&match step {
+                'f' => Call::Forward,
+                'k' => Call::Claim { hart: 0 },
+                _ => Call::Read { offset: 0x401C },
+            });
         }
         digit => domain.write(4 * 5, u32::from(digit) - u32::from('0')),
     }
 }
 
 /// 002, 4.1.5.5, 7, 9 and 11: source i is bit i modulo 32 of register i / 32; zeros for no source.
-fn masks(checks: &mut Checks) {
-    let mut domain = Domain::new();
+fn masks(checks: &mut Checks, delivery: Delivery) {
+    let mut domain = Domain::new(delivery);
     for source in 1..64 {
         domain.write(4 * source, 1);
     }
     for (set, clear) in [(SETIP, IN_CLRIP), (SETIE, CLRIE)] {
-        let name = if set == SETIP { "pending" } else { "enable" };
+        let name = match set {
+            SETIP => format!("{}: pending", delivery.name()),
+            _ => format!("{}: enable", delivery.name()),
+        };
         domain.write(set, 0xFFFF_FFFF);
         let low = (domain.read(set), domain.read(set + 4)) == (0xFFFF_FFFE, 0);
         checks.holds(&format!("{name} bits: bit 0 stands for no source"), low);
@@ -291,12 +315,13 @@ fn masks(checks: &mut Checks) {
         checks.holds(&format!("{name} bits: a zero changes nothing"), kept);
     }
     let zero = domain.read(CLRIE) == 0 && domain.read(CLRIE + 4) == 0;
-    checks.holds("a read of clrie is zero", zero);
+    let name = format!("{}: a read of clrie is zero", delivery.name());
+    checks.holds(&name, zero);
 }
 
 /// 002, 4.1.5.6, 8, 10, 12 and 13: a number that isn't an active source's is ignored; reads are zero.
-fn numbers(checks: &mut Checks) {
-    let mut domain = Domain::new();
+fn numbers(checks: &mut Checks, delivery: Delivery) {
+    let mut domain = Domain::new(delivery);
     for source in [1, 63] {
         domain.write(4 * source, 1);
     }
@@ -309,29 +334,31 @@ fn numbers(checks: &mut Checks) {
         for number in [0, 2, 62, 64, 65, 128 + 1, 0x100 + 63, 0x1_0001, 0xFFFF_FFFF] {
             domain.write(set, number);
         }
-        let name = format!("{set:#x}: no number but an active source's does anything");
+        let mode = delivery.name();
+        let name = format!("{mode}: {set:#x}: no number but an active source's does anything");
         checks.holds(&name, domain == before);
         domain.write(set, 1);
         domain.write(set, 63);
         let both = (domain.read(bits), domain.read(bits + 4)) == (2, 1 << 31);
-        checks.holds(&format!("{set:#x}: numbers 1 and 63"), both);
+        checks.holds(&format!("{mode}: {set:#x}: numbers 1 and 63"), both);
         let zero = domain.read(set) == 0 && domain.read(clear) == 0;
-        checks.holds(&format!("{set:#x}, {clear:#x}: reads are zero"), zero);
+        let name = format!("{mode}: {set:#x}, {clear:#x}: reads are zero");
+        checks.holds(&name, zero);
         for number in [0, 2, 64, 64 + 1, 0x8000_003F] {
             domain.write(clear, number);
         }
         let kept = (domain.read(bits), domain.read(bits + 4)) == (2, 1 << 31);
         domain.write(clear, 1);
         domain.write(clear, 63);
-        let name = format!("{clear:#x}: clears an active source's bit alone");
+        let name = format!("{mode}: {clear:#x}: clears an active source's bit alone");
         checks.holds(&name, kept && domain == before);
     }
 }
 
 /// 002, 4.1.5.9 to 4.1.5.12, under each mode.
-fn enables(checks: &mut Checks) {
+fn enables(checks: &mut Checks, delivery: Delivery) {
     for mode in [0, 1, 4, 5, 6, 7] {
-        let mut domain = Domain::new();
+        let mut domain = Domain::new(delivery);
         domain.write(4 * 40, mode);
         let bit = u32::from(mode != 0) << 8;
         let mut after = |offset: u64, value: u32| {
@@ -344,7 +371,10 @@ fn enables(checks: &mut Checks) {
             after(SETIENUM, 40),
             after(CLRIENUM, 40),
         ];
-        let name = format!("mode {mode}: the enable bit by mask and by number");
+        let name = format!(
+            "{}: mode {mode}: the enable bit by mask and by number",
+            delivery.name()
+        );
         checks.holds(&name, found == [bit, 0, bit, 0]);
     }
 }
@@ -352,7 +382,7 @@ fn enables(checks: &mut Checks) {
 /// 002, 4.1.5.16.2; 02, Req 07: "targets at full width".
 fn targets(checks: &mut Checks) {
     for mode in [0, 1, 4, 5, 6, 7] {
-        let mut domain = Domain::new();
+        let mut domain = Domain::new(Delivery::Message);
         domain.write(4 * 63, mode);
         let mut reads = |value: u32| {
             domain.write(TARGET + 4 * 63, value);
@@ -374,7 +404,7 @@ fn targets(checks: &mut Checks) {
 /// has none of the old ones. From one active mode to another they stay.
 fn made_inactive(checks: &mut Checks) {
     for other in [0, 2, 3, 0x400, 0x404, 1, 4, 5, 6, 7] {
-        let mut domain = with_source(1);
+        let mut domain = with_source(Delivery::Message, 1);
         domain.write(TARGET + 4 * 5, 0x1234_5678);
         domain.write(SETIP, 1 << 5);
         domain.write(4 * 5, other);
@@ -393,7 +423,7 @@ fn made_inactive(checks: &mut Checks) {
 
 /// 002, 4.1.9; 02, Req 07, the forward.
 fn forwards(checks: &mut Checks) {
-    let mut domain = with_source(4);
+    let mut domain = with_source(Delivery::Message, 4);
     domain.write(TARGET + 4 * 5, 0xFFFF_FFFF);
     domain.write(SETIPNUM, 5);
     let ready = domain.clone();
@@ -423,7 +453,7 @@ fn forwards(checks: &mut Checks) {
 
 /// The lowest-numbered source first, whatever was first pending.
 fn forward_order(checks: &mut Checks) {
-    let mut domain = Domain::new();
+    let mut domain = Domain::new(Delivery::Message);
     domain.write(0, 0x100);
     for source in [63, 32, 31, 7, 1u32] {
         domain.write(4 * u64::from(source), 1);
@@ -448,27 +478,31 @@ fn forward_order(checks: &mut Checks) {
 }
 
 /// 02, Req 07: "A wire number outside 1 to 63 is refused with 2014; nothing changes."
-fn wires(checks: &mut Checks) {
-    let mut domain = Domain::new();
+fn wires(checks: &mut Checks, delivery: Delivery) {
+    let mut domain = Domain::new(delivery);
     for source in 1..64 {
         domain.write(4 * source, 4);
     }
     let before = domain.clone();
     for number in [0, 64, 65, 1_023, 1 << 32 | 5, 1 << 63 | 5, u64::MAX] {
         let refused = domain.wire(number, true) == Err(2014) && domain == before;
-        checks.holds(&format!("wire {number} is refused with 2014"), refused);
+        let name = format!("{}: wire {number} is refused with 2014", delivery.name());
+        checks.holds(&name, refused);
     }
     for number in [1, 31, 32, 63] {
         let accepted = domain.wire(number, true) == Ok(());
         let found = u64::from(domain.read(SETIP)) | u64::from(domain.read(SETIP + 4)) << 32;
         domain.write(CLRIPNUM, number as u32);
-        let name = format!("wire {number} is accepted, and its source pending");
+        let name = format!(
+            "{}: wire {number} is accepted, and its source pending",
+            delivery.name()
+        );
         checks.holds(&name, accepted && found == 1 << number);
     }
 }
 
 /// Places that are no register of the domain.
-const UNDEFINED: [(&str, &[u64]); 9] = [
+const UNDEFINED: [(&str, &[u64]); 10] = [
     ("genmsi", &[0x3000]),
     ("setipnum_be", &[0x2004]),
     (
@@ -492,14 +526,20 @@ const UNDEFINED: [(&str, &[u64]); 9] = [
         &[1, 2, 3, 5, 0x102, 0x1C01, 0x1CDD, 0x2002, 0x3005, 0x3007],
     ),
     (
-        "structures of harts, and beyond",
-        &[0x4000, 0x4004, 0x4008, 0x4018, 0x401C, 0x1_0004],
+        "structures of harts above 15, and beyond",
+        &[
+            0x4200, 0x4204, 0x4208, 0x4218, 0x421C, 0x4220, 0x4400, 0x8000, 0x1_0004,
+        ],
+    ),
+    (
+        "reserved in the structures of harts, or misaligned",
+        &[0x400C, 0x4010, 0x4014, 0x41EC, 0x41F4, 0x4001, 0x401E],
     ),
 ];
 
 /// 002, 4.1.5; 02, Req 07: "Undefined offsets, genmsi and setipnum_be read zero and ignore writes".
-fn undefined(checks: &mut Checks) {
-    let mut domain = Domain::new();
+fn undefined(checks: &mut Checks, delivery: Delivery) {
+    let mut domain = Domain::new(delivery);
     for source in 1..64 {
         domain.write(4 * source, 4);
         domain.write(TARGET + 4 * source, 0xFFFF_FFFF);
@@ -518,14 +558,18 @@ fn undefined(checks: &mut Checks) {
                     domain.read(*offset) == 0 && domain == before
                 })
         });
-        checks.holds(&format!("{name}: zero, and writes are ignored"), holds);
+        let mode = delivery.name();
+        checks.holds(
+            &format!("{mode}: {name}: zero, and writes are ignored"),
+            holds,
+        );
     }
 }
 
 /// 002, 4.1.9.2: a level-sensitive source that was forwarded is ignored until its signal has been
 /// de-asserted; setipnum brings it back only while the wire is asserted.
 fn still_asserted(checks: &mut Checks) {
-    let mut domain = with_source(6);
+    let mut domain = with_source(Delivery::Message, 6);
     let _ = domain.wire(5, true);
     let first = domain.forward().is_some();
     let _ = domain.wire(5, true);

@@ -1,13 +1,21 @@
 //! The generator: lists of calls of a domain at reset, a function of the seed and the index alone.
 
-use crate::aplic::domain::{Call, SOURCES};
+use crate::aplic::domain::{Call, HARTS, SOURCES};
+use crate::aplic::hart::HartRegister;
 use crate::aplic::hole::Hole;
 use crate::aplic::register::{Mask, Number, Register};
-use crate::aplic::source::Mode;
+use crate::aplic::source::{Delivery, Mode};
 use crate::random::Random;
 
-/// The list of this index under this seed.
-pub fn list(seed: u64, index: u64) -> Vec<Call> {
+/// Calls of one domain, from its reset on.
+#[derive(Clone, Debug, Default, PartialEq, Eq)]
+pub struct List {
+    pub delivery: Delivery,
+    pub calls: Vec<Call>,
+}
+
+/// The list of this index under this seed; about half are of each delivery mode.
+pub fn list(seed: u64, index: u64) -> List {
     let mut maker = Maker::new(Random::new(seed, index));
     if maker.random.chance(85) {
         maker.set_up();
@@ -16,13 +24,20 @@ pub fn list(seed: u64, index: u64) -> Vec<Call> {
         let call = maker.call();
         maker.calls.push(call);
     }
-    maker.calls
+    List {
+        delivery: maker.delivery,
+        calls: maker.calls,
+    }
 }
 
 struct Maker {
     random: Random,
+    delivery: Delivery,
     /// The sources that most calls of the list are about, so that calls meet each other's effects.
     sources: Vec<u64>,
+    /// The harts and the priorities, likewise.
+    harts: Vec<u64>,
+    priorities: Vec<u64>,
     registers: Vec<Register>,
     holes: Vec<Hole>,
     calls: Vec<Call>,
@@ -30,6 +45,7 @@ struct Maker {
 
 impl Maker {
     fn new(mut random: Random) -> Maker {
+        let delivery = random.pick(&Delivery::ALL);
         let sources: Vec<u64> = match random.below(100) {
             0..=9 => (1..=SOURCES).collect(),
             10..=19 => vec![1, 31, 32, SOURCES],
@@ -38,9 +54,19 @@ impl Maker {
                 (0..count).map(|_| random.between(1, SOURCES)).collect()
             }
         };
+        let harts = (0..random.between(1, 2)).map(|_| random.below(HARTS));
+        let harts = harts.collect();
+        let priorities = (0..random.between(1, 3)).map(|_| match random.below(3) {
+            0 => random.between(1, 3),
+            _ => random.below(256),
+        });
+        let priorities = priorities.collect();
         Maker {
             random,
+            delivery,
             sources,
+            harts,
+            priorities,
             registers: Register::all(),
             holes: Hole::all(),
             calls: Vec::new(),
@@ -63,6 +89,15 @@ impl Maker {
                 self.push_write(Register::Number(Number::Setienum), source as u32);
             }
         }
+        for hart in self.harts.clone() {
+            if self.random.chance(80) {
+                self.push_write(Register::Hart(hart, HartRegister::Idelivery), 1);
+            }
+            if self.random.chance(30) {
+                let value = self.threshold_value();
+                self.push_write(Register::Hart(hart, HartRegister::Ithreshold), value);
+            }
+        }
         if self.random.chance(90) {
             self.push_write(Register::Domaincfg, 0x100);
         }
@@ -74,27 +109,124 @@ impl Maker {
 
     fn call(&mut self) -> Call {
         match self.random.below(100) {
-            0..=21 => self.wire(),
-            22..=33 => {
+            0..=18 => self.wire(),
+            19..=28 => {
                 let source = self.source();
                 write(Register::Sourcecfg(source), self.sourcecfg_value())
             }
-            34..=45 => self.mask_write(),
-            46..=57 => {
+            29..=38 => self.mask_write(),
+            39..=48 => {
                 let number = self.random.pick(&Number::ALL);
                 write(Register::Number(number), self.number_value())
             }
-            58..=63 => {
+            49..=54 => {
                 let source = self.source();
                 write(Register::Target(source), self.target_value())
             }
-            64..=67 => write(Register::Domaincfg, self.domaincfg_value()),
-            68..=81 => Call::Forward,
-            82..=92 => Call::Read {
+            55..=58 => write(Register::Domaincfg, self.domaincfg_value()),
+            59..=60 => Call::Forward,
+            61..=84 => match self.delivery {
+                Delivery::Message if self.random.chance(60) => Call::Forward,
+                _ => self.hart_call(),
+            },
+            85..=93 => Call::Read {
                 offset: self.read_register().offset(),
             },
             _ => self.hole(),
         }
+    }
+
+    /// A claim, a signal, or an access of a hart's registers.
+    fn hart_call(&mut self) -> Call {
+        let hart = self.hart();
+        let read = |register: HartRegister| Call::Read {
+            offset: Register::Hart(hart, register).offset(),
+        };
+        match self.random.below(100) {
+            0..=17 => Call::Claim {
+                hart: self.hart_number(),
+            },
+            18..=35 => read(HartRegister::Claimi),
+            36..=53 => read(HartRegister::Topi),
+            54..=71 => Call::Signal {
+                hart: self.hart_number(),
+            },
+            _ => {
+                let register = self.random.pick(&HartRegister::ALL);
+                let value = match register {
+                    HartRegister::Ithreshold => self.threshold_value(),
+                    _ => self.random.pick(&[0, 1, 1]) | self.high_bits(1),
+                };
+                write(Register::Hart(hart, register), value)
+            }
+        }
+    }
+
+    /// Bits from this one on, at times.
+    fn high_bits(&mut self, lowest: u32) -> u32 {
+        match self.random.chance(30) {
+            true => self.random.number() as u32 >> lowest << lowest,
+            false => 0,
+        }
+    }
+
+    /// Mostly one of the list's harts.
+    fn hart(&mut self) -> u64 {
+        match self.random.chance(90) {
+            true => self.random.pick(&self.harts),
+            false => self.random.below(HARTS),
+        }
+    }
+
+    /// A hart's number, at times that of none.
+    fn hart_number(&mut self) -> u64 {
+        let hart = self.hart();
+        let random = &mut self.random;
+        match random.below(100) {
+            0..=1 => HARTS,
+            2 => random.between(HARTS + 1, 2 * HARTS - 1),
+            3 => random.of_width(64).max(2 * HARTS) / HARTS * HARTS + hart,
+            4 => 1 << random.between(5, 63) | hart,
+            5 => u64::MAX,
+            _ => hart,
+        }
+    }
+
+    /// One of the list's priorities, a neighbour of it, or any.
+    fn priority(&mut self) -> u64 {
+        let some = self.random.pick(&self.priorities);
+        match self.random.below(20) {
+            0..=9 => some,
+            10..=11 => some + 1,
+            12..=13 => some.saturating_sub(1),
+            14..=15 => 0,
+            16 => 1,
+            17 => 255,
+            _ => self.random.below(256),
+        }
+    }
+
+    /// Often 0, which lets every source pass.
+    fn threshold_value(&mut self) -> u32 {
+        let value = match self.random.chance(30) {
+            true => 0,
+            false => self.priority() as u32 & 0xFF,
+        };
+        value | self.high_bits(8)
+    }
+
+    /// In direct delivery: mostly one of the list's harts; at times one above 15 that ends in the same
+    /// four bits.
+    fn direct_target_value(&mut self) -> u32 {
+        let hart = self.hart();
+        let index = match self.random.below(20) {
+            0 => HARTS + hart,
+            1 => self.random.below(1 << 14) / HARTS * HARTS + hart,
+            2 => (1 << 14) - 1,
+            _ => hart,
+        };
+        let reserved = self.high_bits(8) & 0x0003_FF00;
+        (index as u32) << 18 | reserved | self.priority() as u32 & 0xFF
     }
 
     /// Mostly one of the list's sources.
@@ -172,6 +304,9 @@ impl Maker {
 
     /// Any value, at times with some fields all zeros or all ones.
     fn target_value(&mut self) -> u32 {
+        if self.delivery == Delivery::Direct && self.random.chance(90) {
+            return self.direct_target_value();
+        }
         let random = &mut self.random;
         let mut value = random.number() as u32;
         for field in [0xFFFC_0000, 0x0003_F000, 0x0000_07FF] {

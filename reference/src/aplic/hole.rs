@@ -1,6 +1,6 @@
 //! Places of the control region, and beyond it, that aren't a register of the domain.
 
-use crate::aplic::domain::SOURCES;
+use crate::aplic::domain;
 use crate::aplic::register::Register;
 use crate::random::Random;
 
@@ -34,11 +34,13 @@ const RUNS: [(&str, u64, u64); 23] = [
 
 /// 002, 4.1.5: the structures of harts, 32 bytes each, begin here.
 const HARTS: u64 = 0x4000;
+/// The structure of the first hart that the domain hasn't.
+const NEXT_HART: u64 = HARTS + 32 * domain::HARTS;
 /// 4.1.3: hart index numbers are below 2^14.
 const HARTS_END: u64 = HARTS + (32 << 14);
 
 /// Name, first byte and last byte of a register in a hart's structure, and of what is reserved there.
-const HART_REGISTERS: [(&str, u64, u64); 6] = [
+const HART_PARTS: [(&str, u64, u64); 6] = [
     ("idelivery", 0x00, 0x03),
     ("iforce", 0x04, 0x07),
     ("ithreshold", 0x08, 0x0B),
@@ -46,6 +48,8 @@ const HART_REGISTERS: [(&str, u64, u64); 6] = [
     ("topi", 0x18, 0x1B),
     ("claimi", 0x1C, 0x1F),
 ];
+/// The place of what is reserved.
+const RESERVED: usize = 3;
 
 /// A kind of place that isn't a register of the domain.
 #[derive(Clone, Copy, Debug, PartialEq, Eq, PartialOrd, Ord)]
@@ -54,7 +58,11 @@ pub enum Hole {
     Into(u64),
     /// A run of the control region's first 16 KiB, by its place in the table of runs.
     Run(usize),
-    /// A part of a hart's structure, by its place in the table.
+    /// What is reserved in the structures of harts 0 to 15.
+    Reserved,
+    /// A part of hart 16's structure, by its place in the table.
+    NextHart(usize),
+    /// The same of a hart above 16.
     Hart(usize),
     /// Beyond all structures of harts.
     Beyond,
@@ -68,8 +76,9 @@ impl Hole {
     pub fn all() -> Vec<Hole> {
         let mut all: Vec<Hole> = (1..4).map(Hole::Into).collect();
         all.extend((0..RUNS.len()).map(Hole::Run));
-        all.extend((0..HART_REGISTERS.len()).map(Hole::Hart));
-        all.extend([Hole::Beyond, Hole::Above16, Hole::Above32]);
+        all.extend((0..HART_PARTS.len()).map(Hole::NextHart));
+        all.extend((0..HART_PARTS.len()).map(Hole::Hart));
+        all.extend([Hole::Reserved, Hole::Beyond, Hole::Above16, Hole::Above32]);
         all
     }
 
@@ -87,8 +96,13 @@ impl Hole {
         }
         let within = |place: u64| move |run: &(&str, u64, u64)| (run.1..=run.2).contains(&place);
         if (HARTS..HARTS_END).contains(&offset) {
-            let place = HART_REGISTERS.iter().position(within(offset % 32));
-            return Hole::Hart(place.unwrap_or_default());
+            let place = HART_PARTS.iter().position(within(offset % 32));
+            let place = place.unwrap_or_default();
+            return match offset {
+                HARTS..NEXT_HART => Hole::Reserved,
+                _ if offset < NEXT_HART + 32 => Hole::NextHart(place),
+                _ => Hole::Hart(place),
+            };
         }
         RUNS.iter()
             .position(within(offset))
@@ -106,13 +120,17 @@ impl Hole {
                 let any = random.between(first, last);
                 random.pick(&[first, last - 3, any])
             }
+            Hole::Reserved => {
+                HARTS + 32 * random.below(domain::HARTS) + in_structure(RESERVED, random)
+            }
+            Hole::NextHart(place) => NEXT_HART + in_structure(place, random),
             Hole::Hart(place) => {
-                let (_, first, last) = HART_REGISTERS[place];
-                let hart = random.pick(&[16, SOURCES, 1 << 14]);
-                HARTS + 32 * random.below(hart) + random.between(first, last)
+                let end = random.pick(&[18, 64, 1 << 14]);
+                HARTS + 32 * random.between(17, end - 1) + in_structure(place, random)
             }
             Hole::Beyond => match random.below(3) {
-                0 => HARTS_END,
+                // At the very end offsets look like those of the first harts.
+                0 => HARTS_END + 32 * domain::HARTS,
                 1 => u64::MAX,
                 _ => HARTS_END.saturating_add(random.of_width(64)),
             },
@@ -129,12 +147,20 @@ impl Hole {
         match self {
             Hole::Into(bytes) => format!("misaligned, {bytes} bytes into a register"),
             Hole::Run(run) => RUNS[run].0.to_string(),
-            Hole::Hart(place) => format!("structure of a hart, {}", HART_REGISTERS[place].0),
+            Hole::Reserved => "structure of harts 0 to 15, reserved".to_string(),
+            Hole::NextHart(place) => format!("structure of hart 16, {}", HART_PARTS[place].0),
+            Hole::Hart(place) => format!("structure of a hart above 16, {}", HART_PARTS[place].0),
             Hole::Beyond => "beyond the structures of harts".to_string(),
             Hole::Above16 => "a register's offset and a multiple of 2^16".to_string(),
             Hole::Above32 => "a register's offset and a multiple of 2^32".to_string(),
         }
     }
+}
+
+/// Some place in a part of a hart's structure.
+fn in_structure(part: usize, random: &mut Random) -> u64 {
+    let (_, first, last) = HART_PARTS[part];
+    random.between(first, last)
 }
 
 #[cfg(test)]

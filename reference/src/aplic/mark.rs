@@ -2,9 +2,11 @@
 //! that can be met, each with the outcome that the documents give it.
 
 use crate::aplic::domain::{Answer, Call, Domain, Message, SOURCES};
+use crate::aplic::hart::HartRegister;
+use crate::aplic::hart_mark::{self, Asked, HartMark, Way};
 use crate::aplic::hole::Hole;
 use crate::aplic::register::{Mask, Number, Register};
-use crate::aplic::source::{Act, Mode, Source};
+use crate::aplic::source::{Act, Delivery, Mode, Source};
 use crate::mark::named;
 
 named!(
@@ -32,14 +34,22 @@ impl State {
         }
     }
 
-    /// Those that can stand: "the pending bit for a level-sensitive source is never set (= 1) when the
-    /// rectified input value is low" (002, 4.1.7), and an inactive source's is zero (4.1.5.2).
-    fn all() -> Vec<State> {
+    /// Those that can stand. 002, 4.1.7: "When an interrupt domain is in direct delivery mode, the
+    /// pending bit for a level-sensitive source is always just a copy of the rectified input value. Even
+    /// in MSI delivery mode, the pending bit for a level-sensitive source is never set (= 1) when the
+    /// rectified input value is low"; an inactive source's is zero (4.1.5.2).
+    fn all(delivery: Delivery) -> Vec<State> {
         let mut all = Vec::new();
         for mode in Mode::ALL {
             for (wire, pending) in [(false, false), (false, true), (true, false), (true, true)] {
-                let low = !mode.rectified(wire);
-                if pending && (mode == Mode::Inactive || mode.is_level() && low) {
+                let high = mode.rectified(wire);
+                let stands = match (mode, delivery) {
+                    (Mode::Inactive, _) => !pending,
+                    (Mode::Level1 | Mode::Level0, Delivery::Direct) => pending == high,
+                    (Mode::Level1 | Mode::Level0, Delivery::Message) => !pending || high,
+                    _ => true,
+                };
+                if !stands {
                     continue;
                 }
                 all.push(State {
@@ -111,6 +121,8 @@ pub enum Event {
     Number(Number),
     Configured(Configured),
     Forward,
+    /// By a read of claimi or by a call.
+    Claim(Way),
 }
 
 /// What a rule does to a pending bit.
@@ -128,26 +140,30 @@ impl Event {
         let numbers = [Number::Setipnum, Number::SetipnumLe, Number::Clripnum];
         all.extend(numbers.map(Event::Number));
         all.extend(Configured::all().into_iter().map(Event::Configured));
+        all.extend(Way::CLAIMING.map(Event::Claim));
         all
     }
 
     /// The rules of 4.1.7 once more, as rows of mode, input and effect; none where the event can't be.
-    fn effect(self, state: State) -> Option<Effect> {
+    fn effect(self, delivery: Delivery, state: State) -> Option<Effect> {
         let mode = state.mode;
         let effect = match self {
             Event::Wire(high) => {
                 wire_effect(mode, mode.rectified(state.wire), mode.rectified(high))
             }
             Event::Mask(Mask::Setip) | Event::Number(Number::Setipnum | Number::SetipnumLe) => {
-                set_effect(mode, mode.rectified(state.wire))
+                set_effect(delivery, mode, mode.rectified(state.wire))
             }
             Event::Configured(value) => {
                 let mode = value.mode();
                 configured_effect(mode, mode.rectified(state.wire))
             }
-            // Only a pending source is forwarded.
-            Event::Forward => return state.pending.then_some(Effect::Cleared),
-            Event::Mask(_) | Event::Number(_) => Effect::Cleared,
+            // Only a pending source is forwarded or claimed, each in its delivery mode.
+            Event::Forward if delivery == Delivery::Direct => return None,
+            Event::Claim(_) if delivery == Delivery::Message => return None,
+            Event::Forward | Event::Claim(_) if !state.pending => return None,
+            Event::Forward => Effect::Cleared,
+            Event::Claim(_) | Event::Mask(_) | Event::Number(_) => clear_effect(delivery, mode),
         };
         Some(effect)
     }
@@ -160,6 +176,7 @@ impl Event {
             Event::Number(number) => number.name().to_string(),
             Event::Configured(value) => format!("sourcecfg, {}", value.name()),
             Event::Forward => "forward".to_string(),
+            Event::Claim(way) => way.name().to_string(),
         }
     }
 }
@@ -175,10 +192,20 @@ fn wire_effect(mode: Mode, before: bool, after: bool) -> Effect {
 }
 
 /// By the rectified input when setip or setipnum is written.
-fn set_effect(mode: Mode, rectified: bool) -> Effect {
-    match (mode, rectified) {
-        (Mode::Inactive, _) | (Mode::Level1 | Mode::Level0, false) => Effect::Kept,
+fn set_effect(delivery: Delivery, mode: Mode, rectified: bool) -> Effect {
+    match (mode, delivery, rectified) {
+        (Mode::Inactive, _, _) => Effect::Kept,
+        (Mode::Level1 | Mode::Level0, Delivery::Direct, _) => Effect::Kept,
+        (Mode::Level1 | Mode::Level0, Delivery::Message, false) => Effect::Kept,
         _ => Effect::Set,
+    }
+}
+
+/// When in_clrip or clripnum is written, or the interrupt is claimed.
+fn clear_effect(delivery: Delivery, mode: Mode) -> Effect {
+    match (mode, delivery) {
+        (Mode::Level1 | Mode::Level0, Delivery::Direct) => Effect::Kept,
+        _ => Effect::Cleared,
     }
 }
 
@@ -235,6 +262,9 @@ named!(
         NotEnabled = "IE = 1, some pending, none enabled",
         NotPending = "IE = 1, some enabled, none pending",
         Apart = "IE = 1, some pending and others enabled",
+        DirectWaiting = "direct delivery, IE = 1, a source waits",
+        DirectOff = "direct delivery, IE = 0, a source waits",
+        DirectIdle = "direct delivery, none waits",
     }
 );
 
@@ -265,24 +295,50 @@ named!(
     }
 );
 
-/// The enable bit of a source, and whether its target isn't zero.
+named!(
+    /// The value of a target register.
+    Held {
+        Zero = "target 0",
+        Least = "target 1",
+        Other = "a target",
+    }
+);
+
+impl Held {
+    fn of(delivery: Delivery, source: &Source) -> Held {
+        match (source.target.value(delivery), delivery) {
+            (0, _) => Held::Zero,
+            (1, Delivery::Direct) => Held::Least,
+            _ => Held::Other,
+        }
+    }
+
+    /// Those that an active source can have: 02, Req 08, no priority is 0.
+    fn active(delivery: Delivery) -> [Held; 2] {
+        match delivery {
+            Delivery::Message => [Held::Zero, Held::Other],
+            Delivery::Direct => [Held::Least, Held::Other],
+        }
+    }
+}
+
+/// The enable bit of a source, and its target.
 #[derive(Clone, Copy, Debug, PartialEq, Eq, PartialOrd, Ord)]
 pub struct Kept {
     pub enable: bool,
-    pub target: bool,
+    pub target: Held,
 }
 
 impl Kept {
-    fn of(source: &Source) -> Kept {
+    fn of(delivery: Delivery, source: &Source) -> Kept {
         Kept {
             enable: source.enable,
-            target: source.target.value() != 0,
+            target: Held::of(delivery, source),
         }
     }
 
     fn name(self) -> String {
-        let target = if self.target { "a target" } else { "target 0" };
-        format!("enable {}, {target}", u8::from(self.enable))
+        format!("enable {}, {}", u8::from(self.enable), self.target.name())
     }
 }
 
@@ -290,25 +346,25 @@ impl Kept {
 #[derive(Clone, Copy, Debug, PartialEq, Eq, PartialOrd, Ord)]
 pub enum Mark {
     /// A register.
-    Register(Access, Register),
+    Register(Delivery, Access, Register),
     /// A place that isn't one, and what is read there.
-    Hole(Access, Hole),
+    Hole(Delivery, Access, Hole),
     /// A one at the bit of a source, which may be 0.
     Bit(Access, Mask, u64),
     /// A mode read.
     ModeRead(Mode),
     /// domaincfg written: IE before, bits IE, DM and BE of the value, any other bit of it; IE after.
-    Domaincfg(bool, [bool; 4], bool),
-    /// domaincfg read, with this IE.
-    DomaincfgRead(bool),
+    Domaincfg(Delivery, bool, [bool; 4], bool),
+    /// domaincfg read, with this IE, and its DM.
+    DomaincfgRead(Delivery, bool, bool),
     /// A bit of a value written to sourcecfg that is one.
     SourcecfgBit(u32),
     /// The mode before a write to sourcecfg, what is written, the mode after it.
     Mode(Mode, Configured, Mode),
     /// Modes, enable bit and target before and after a write to sourcecfg.
-    Kept(Mode, Mode, Kept, Kept),
+    Kept(Delivery, Mode, Mode, Kept, Kept),
     /// A source before an event, and its pending bit after it.
-    Pending(Event, State, bool),
+    Pending(Delivery, Event, State, bool),
     /// A register that changes enable bits, a source's mode and enable bit, the bit after.
     Enable(Event, Mode, bool, bool),
     /// A number written to a register by number.
@@ -316,7 +372,7 @@ pub enum Mark {
     /// A source by its number, written to a register by number.
     ByNumber(Number, u64),
     /// A one written to a bit of a target, the source's mode, and whether the bit is then one.
-    TargetBit(Mode, u32, bool),
+    TargetBit(Delivery, Mode, u32, bool),
     /// A wire's number, and whether it is refused.
     Wire(Given, bool),
     /// A source's wire, to low or high.
@@ -329,6 +385,8 @@ pub enum Mark {
     Waiting(Waiting),
     /// A field of a message.
     Field(Field, Size),
+    /// Something of a hart.
+    Hart(HartMark),
 }
 
 /// The observer that is told of each mark.
@@ -345,31 +403,71 @@ pub fn observe(before: &Domain, call: &Call, answer: Answer, after: &Domain, see
             }
             observe_pending(before, after, source, Event::Wire(high), see);
         }
-        Call::Read { offset } => observe_read(before, offset, answer, see),
+        Call::Read { offset } => observe_read(before, offset, answer, after, see),
         Call::Write { offset, value } => observe_write(before, offset, value, after, see),
         Call::Forward => observe_forward(before, answer, after, see),
+        Call::Claim { hart } => observe_hart(before, (Way::Claim, hart), answer, after, see),
+        Call::Signal { hart } => observe_hart(before, (Way::Signal, hart), answer, after, see),
+    }
+}
+
+/// A hart that is asked, by a call or by a read.
+fn observe_hart(
+    before: &Domain,
+    (way, number): (Way, u64),
+    answer: Answer,
+    after: &Domain,
+    see: See,
+) {
+    let asked = Asked {
+        way,
+        number,
+        answer,
+        before,
+        after,
+    };
+    let mut see_hart = |mark| see(Mark::Hart(mark));
+    match way {
+        Way::Claim | Way::Signal => hart_mark::observe_call(&asked, &mut see_hart),
+        Way::Claimi | Way::Topi => hart_mark::observe(&asked, &mut see_hart),
+    }
+    if let (Way::Claim | Way::Claimi, Answer::Value(value)) = (way, answer) {
+        let source = u64::from(value >> 16);
+        observe_pending(before, after, source, Event::Claim(way), see);
     }
 }
 
 /// A source's pending bit, where there is such a source.
 fn observe_pending(before: &Domain, after: &Domain, number: u64, event: Event, see: See) {
-    if let (Some(before), Some(after)) = (before.source(number), after.source(number)) {
-        see(Mark::Pending(event, State::of(before), after.pending));
+    let delivery = before.delivery();
+    if let (Some(source), Some(after)) = (before.source(number), after.source(number)) {
+        let state = State::of(source);
+        see(Mark::Pending(delivery, event, state, after.pending));
     }
 }
 
-fn observe_read(domain: &Domain, offset: u64, answer: Answer, see: See) {
+fn observe_read(before: &Domain, offset: u64, answer: Answer, after: &Domain, see: See) {
+    let delivery = before.delivery();
     let Some(register) = Register::at(offset) else {
-        see(Mark::Hole(Access::Read, Hole::at(offset)));
+        see(Mark::Hole(delivery, Access::Read, Hole::at(offset)));
         return;
     };
-    see(Mark::Register(Access::Read, register));
+    see(Mark::Register(delivery, Access::Read, register));
     match (register, answer) {
-        (Register::Domaincfg, _) => see(Mark::DomaincfgRead(domain.enable)),
+        (Register::Domaincfg, Answer::Value(value)) => {
+            let dm = value >> 2 & 1 == 1;
+            see(Mark::DomaincfgRead(delivery, before.enable, dm));
+        }
         (Register::Sourcecfg(number), _) => {
-            if let Some(source) = domain.source(number) {
+            if let Some(source) = before.source(number) {
                 see(Mark::ModeRead(source.mode));
             }
+        }
+        (Register::Hart(hart, HartRegister::Topi), _) => {
+            observe_hart(before, (Way::Topi, hart), answer, after, see);
+        }
+        (Register::Hart(hart, HartRegister::Claimi), _) => {
+            observe_hart(before, (Way::Claimi, hart), answer, after, see);
         }
         (Register::Mask(mask, half), Answer::Value(value)) => {
             for place in ones(value) {
@@ -386,20 +484,18 @@ fn ones(value: u32) -> impl Iterator<Item = u64> {
 }
 
 fn observe_write(before: &Domain, offset: u64, value: u32, after: &Domain, see: See) {
+    let delivery = before.delivery();
     let Some(register) = Register::at(offset) else {
-        see(Mark::Hole(Access::Write, Hole::at(offset)));
+        see(Mark::Hole(delivery, Access::Write, Hole::at(offset)));
         return;
     };
-    see(Mark::Register(Access::Write, register));
+    see(Mark::Register(delivery, Access::Write, register));
     match register {
         Register::Domaincfg => {
             let [ie, dm, be] = [8, 2, 0].map(|place| value >> place & 1 == 1);
-            let other = value & !0x105 != 0;
-            see(Mark::Domaincfg(
-                before.enable,
-                [ie, dm, be, other],
-                after.enable,
-            ));
+            let written = [ie, dm, be, value & !0x105 != 0];
+            let mark = Mark::Domaincfg(delivery, before.enable, written, after.enable);
+            see(mark);
         }
         Register::Sourcecfg(number) => observe_sourcecfg(before, number, value, after, see),
         Register::Target(number) => observe_target(number, value, after, see),
@@ -419,6 +515,10 @@ fn observe_write(before: &Domain, offset: u64, value: u32, after: &Domain, see: 
             }
             let event = (Event::Number(register), register.act());
             observe_act(before, number, event, after, see);
+        }
+        Register::Hart(hart, register) => {
+            let mut see_hart = |mark| see(Mark::Hart(mark));
+            hart_mark::observe_write(after, hart, register, value, &mut see_hart);
         }
     }
 }
@@ -447,10 +547,11 @@ fn observe_sourcecfg(before: &Domain, number: u64, value: u32, after: &Domain, s
     let configured = Configured::of(value);
     let event = Event::Configured(configured);
     observe_pending(before, after, number, event, see);
+    let delivery = before.delivery();
     if let (Some(before), Some(after)) = (before.source(number), after.source(number)) {
         see(Mark::Mode(before.mode, configured, after.mode));
-        let kept = Mark::Kept(before.mode, after.mode, Kept::of(before), Kept::of(after));
-        see(kept);
+        let [was, is] = [before, after].map(|source| Kept::of(delivery, source));
+        see(Mark::Kept(delivery, before.mode, after.mode, was, is));
     }
 }
 
@@ -458,10 +559,15 @@ fn observe_target(number: u64, value: u32, after: &Domain, see: See) {
     let Some(source) = after.source(number) else {
         return;
     };
-    let kept = source.target.value();
+    let delivery = after.delivery();
+    let kept = source.target.value(delivery);
     for place in ones(value) {
         let one = kept >> place & 1 == 1;
-        see(Mark::TargetBit(source.mode, place as u32, one));
+        see(Mark::TargetBit(delivery, source.mode, place as u32, one));
+    }
+    if delivery == Delivery::Direct && source.mode.is_active() {
+        let mut see_hart = |mark| see(Mark::Hart(mark));
+        hart_mark::observe_priority(source, value, &mut see_hart);
     }
 }
 
@@ -505,6 +611,13 @@ fn nothing(domain: &Domain) -> Nothing {
     let waits = domain.sources().any(|(_, source)| source.is_waiting());
     let pending = domain.sources().any(|(_, source)| source.pending);
     let enabled = domain.sources().any(|(_, source)| source.enable);
+    if domain.delivery() == Delivery::Direct {
+        return match (waits, domain.enable) {
+            (true, true) => Nothing::DirectWaiting,
+            (true, false) => Nothing::DirectOff,
+            (false, _) => Nothing::DirectIdle,
+        };
+    }
     match (domain.enable, waits, pending, enabled) {
         (false, true, _, _) => Nothing::OffWaiting,
         (false, false, _, _) => Nothing::OffIdle,
@@ -524,17 +637,14 @@ impl Mark {
         all.extend(pending_marks());
         all.extend(enable_marks());
         all.extend(number_marks());
-        for mode in Mode::ALL {
-            // An inactive source's target is read-only zero, and bit 11 is reserved.
-            let kept = |bit| mode != Mode::Inactive && bit != 11;
-            all.extend((0..32).map(|bit| Mark::TargetBit(mode, bit, kept(bit))));
-        }
+        all.extend(target_marks());
         all.extend(Nothing::ALL.iter().copied().map(Mark::Nothing));
         all.extend((1..=SOURCES).map(Mark::Forwarded));
         all.extend(Waiting::ALL.iter().copied().map(Mark::Waiting));
         for &field in Field::ALL {
             all.extend(Size::ALL.iter().map(|size| Mark::Field(field, *size)));
         }
+        all.extend(HartMark::all().into_iter().map(Mark::Hart));
         all
     }
 
@@ -543,7 +653,7 @@ impl Mark {
             Mark::Register(..) => "registers",
             Mark::Hole(..) => "places without a register: read as zero, writes ignored",
             Mark::Bit(..) => "ones in mask registers",
-            Mark::Domaincfg(..) | Mark::DomaincfgRead(_) => "domaincfg",
+            Mark::Domaincfg(..) | Mark::DomaincfgRead(..) => "domaincfg",
             Mark::SourcecfgBit(_) | Mark::ModeRead(_) => "sourcecfg",
             Mark::Mode(..) => "mode before, value written to sourcecfg, mode after",
             Mark::Kept(..) => "enable bit and target under a write to sourcecfg",
@@ -554,29 +664,40 @@ impl Mark {
             Mark::Wire(..) | Mark::WireOf(..) => "wires",
             Mark::Nothing(_) => "forwards of nothing",
             Mark::Forwarded(_) | Mark::Waiting(_) | Mark::Field(..) => "forwards",
+            Mark::Hart(mark) => mark.group(),
         }
     }
 
     pub fn name(self) -> String {
         match self {
-            Mark::Register(access, register) => format!("{} {}", register.name(), access.name()),
-            Mark::Hole(access, hole) => format!("{}: {}", hole.name(), access.name()),
+            Mark::Register(delivery, access, register) => {
+                let (register, access) = (register.name(), access.name());
+                format!("{}, {register} {access}", delivery.name())
+            }
+            Mark::Hole(delivery, access, hole) => {
+                format!("{}, {}: {}", delivery.name(), hole.name(), access.name())
+            }
             Mark::Bit(access, mask, number) => {
                 format!("{}, source {number}: {}", mask.name(), access.name())
             }
             Mark::ModeRead(mode) => format!("{} read", mode.name()),
-            Mark::Domaincfg(before, [ie, dm, be, other], after) => {
+            Mark::Domaincfg(delivery, before, [ie, dm, be, other], after) => {
                 let [before, ie, dm, be, other, after] =
                     [before, ie, dm, be, other, after].map(u8::from);
-                format!("IE {before}, written IE {ie} DM {dm} BE {be} others {other}: IE {after}")
+                let written = format!("written IE {ie} DM {dm} BE {be} others {other}");
+                format!("{}, IE {before}, {written}: IE {after}", delivery.name())
             }
-            Mark::DomaincfgRead(enable) => format!("read with IE {}", u8::from(enable)),
+            Mark::DomaincfgRead(delivery, enable, dm) => {
+                let [enable, dm] = [enable, dm].map(u8::from);
+                format!("{}, read with IE {enable}: DM {dm}", delivery.name())
+            }
             Mark::SourcecfgBit(bit) => format!("bit {bit} written as one"),
             Mark::Mode(before, value, after) => {
                 format!("{}, {}: {}", before.name(), value.name(), after.name())
             }
-            Mark::Kept(from, to, before, after) => format!(
-                "{} to {}, {}: {}",
+            Mark::Kept(delivery, from, to, before, after) => format!(
+                "{}, {} to {}, {}: {}",
+                delivery.name(),
                 from.name(),
                 to.name(),
                 before.name(),
@@ -589,8 +710,10 @@ impl Mark {
     fn other_name(self) -> String {
         let bit = u8::from;
         match self {
-            Mark::Pending(event, state, after) => {
-                format!("{}: {}: pending {}", event.name(), state.name(), bit(after))
+            Mark::Pending(delivery, event, state, after) => {
+                let (delivery, event) = (delivery.name(), event.name());
+                let (state, after) = (state.name(), bit(after));
+                format!("{delivery}, {event}: {state}: pending {after}")
             }
             Mark::Enable(event, mode, before, after) => {
                 let [before, after] = [before, after].map(bit);
@@ -599,8 +722,9 @@ impl Mark {
             }
             Mark::Given(number, given) => format!("{}: {}", number.name(), given.name()),
             Mark::ByNumber(number, source) => format!("{}: source {source}", number.name()),
-            Mark::TargetBit(mode, place, one) => {
-                format!("{}: bit {place} is then {}", mode.name(), bit(one))
+            Mark::TargetBit(delivery, mode, place, one) => {
+                let (delivery, mode) = (delivery.name(), mode.name());
+                format!("{delivery}, {mode}: bit {place} is then {}", bit(one))
             }
             Mark::Wire(given, refused) => {
                 let word = if refused { "refused" } else { "accepted" };
@@ -613,6 +737,7 @@ impl Mark {
             Mark::Forwarded(number) => format!("source {number}"),
             Mark::Waiting(waiting) => waiting.name().to_string(),
             Mark::Field(field, size) => format!("{}: {}", field.name(), size.name()),
+            Mark::Hart(mark) => mark.name(),
             _ => String::new(),
         }
     }
@@ -621,13 +746,15 @@ impl Mark {
 /// Registers, places without one, and the ones of mask registers.
 fn place_marks() -> Vec<Mark> {
     let mut marks = Vec::new();
-    for &access in Access::ALL {
+    let ways =
+        Delivery::ALL.map(|delivery| [Access::Read, Access::Write].map(|way| (delivery, way)));
+    for (delivery, access) in ways.into_iter().flatten() {
         let registers = Register::all().into_iter();
-        marks.extend(registers.map(|register| Mark::Register(access, register)));
+        marks.extend(registers.map(|register| Mark::Register(delivery, access, register)));
     }
-    for &access in Access::ALL {
+    for (delivery, access) in ways.into_iter().flatten() {
         let holes = Hole::all().into_iter();
-        marks.extend(holes.map(|hole| Mark::Hole(access, hole)));
+        marks.extend(holes.map(|hole| Mark::Hole(delivery, access, hole)));
     }
     for mask in Mask::ALL {
         marks.extend((0..=SOURCES).map(|number| Mark::Bit(Access::Write, mask, number)));
@@ -640,11 +767,17 @@ fn place_marks() -> Vec<Mark> {
 }
 
 fn domaincfg_marks() -> Vec<Mark> {
-    let mut marks: Vec<Mark> = [false, true].map(Mark::DomaincfgRead).into();
-    for before in [false, true] {
-        for value in 0..16 {
+    let mut marks = Vec::new();
+    for delivery in Delivery::ALL {
+        // 002, 4.1.5.1: DM is 1 in MSI delivery mode.
+        let dm = delivery == Delivery::Message;
+        marks.extend([false, true].map(|enable| Mark::DomaincfgRead(delivery, enable, dm)));
+        for (before, value) in [false, true]
+            .into_iter()
+            .flat_map(|before| (0..16).map(move |value| (before, value)))
+        {
             let [ie, dm, be, other] = [3, 2, 1, 0].map(|place| value >> place & 1 == 1);
-            marks.push(Mark::Domaincfg(before, [ie, dm, be, other], ie));
+            marks.push(Mark::Domaincfg(delivery, before, [ie, dm, be, other], ie));
         }
     }
     marks
@@ -658,38 +791,78 @@ fn source_marks() -> Vec<Mark> {
         let values = Configured::all().into_iter();
         marks.extend(values.map(|value| Mark::Mode(before, value, value.mode())));
     }
-    let none = Kept {
-        enable: false,
-        target: false,
-    };
-    for (from, to) in Mode::ALL
-        .into_iter()
-        .flat_map(|from| Mode::ALL.map(|to| (from, to)))
-    {
-        for (enable, target) in [(false, false), (false, true), (true, false), (true, true)] {
-            let before = Kept { enable, target };
-            // 002, 4.1.5.2: an inactive source has neither.
-            if from == Mode::Inactive && before != none {
-                continue;
+    for delivery in Delivery::ALL {
+        for from in Mode::ALL {
+            for to in Mode::ALL {
+                marks.extend(kept_marks(delivery, from, to));
             }
-            let after = if to == Mode::Inactive { none } else { before };
-            marks.push(Mark::Kept(from, to, before, after));
         }
     }
     marks
 }
 
+/// 002, 4.1.5.2: an inactive source has neither an enable bit nor a target; 02, Req 07 and Req 08: one
+/// made active starts with target 0, in direct delivery mode with priority 1.
+fn kept_marks(delivery: Delivery, from: Mode, to: Mode) -> Vec<Mark> {
+    let none = Kept {
+        enable: false,
+        target: Held::Zero,
+    };
+    let [start, _] = Held::active(delivery);
+    let befores = match from {
+        Mode::Inactive => vec![none],
+        _ => [false, true]
+            .into_iter()
+            .flat_map(|enable| Held::active(delivery).map(|target| Kept { enable, target }))
+            .collect(),
+    };
+    let after = |before: Kept| match (from, to) {
+        (_, Mode::Inactive) => none,
+        (Mode::Inactive, _) => Kept {
+            enable: false,
+            target: start,
+        },
+        _ => before,
+    };
+    befores
+        .into_iter()
+        .map(|before| Mark::Kept(delivery, from, to, before, after(before)))
+        .collect()
+}
+
 fn pending_marks() -> Vec<Mark> {
     let mut marks = Vec::new();
-    for event in Event::all() {
-        for state in State::all() {
-            let after = match event.effect(state) {
-                None => continue,
-                Some(Effect::Kept) => state.pending,
-                Some(Effect::Set) => true,
-                Some(Effect::Cleared) => false,
+    for delivery in Delivery::ALL {
+        for event in Event::all() {
+            for state in State::all(delivery) {
+                let after = match event.effect(delivery, state) {
+                    None => continue,
+                    Some(Effect::Kept) => state.pending,
+                    Some(Effect::Set) => true,
+                    Some(Effect::Cleared) => false,
+                };
+                marks.push(Mark::Pending(delivery, event, state, after));
+            }
+        }
+    }
+    marks
+}
+
+/// An inactive source's target is read-only zero. 002, 4.1.5.16: in MSI delivery mode bit 11 is
+/// reserved, in direct delivery mode bits 17:8 are.
+fn target_marks() -> Vec<Mark> {
+    let mut marks = Vec::new();
+    for delivery in Delivery::ALL {
+        for mode in Mode::ALL {
+            let kept = |bit: u32| {
+                let reserved = match delivery {
+                    Delivery::Message => bit == 11,
+                    Delivery::Direct => (8..=17).contains(&bit),
+                };
+                mode != Mode::Inactive && !reserved
             };
-            marks.push(Mark::Pending(event, state, after));
+            let bits = 0..32;
+            marks.extend(bits.map(|bit| Mark::TargetBit(delivery, mode, bit, kept(bit))));
         }
     }
     marks

@@ -1,6 +1,7 @@
 //! The registers of the control region, by their offsets (002, 4.1.5, Table 1).
 
-use crate::aplic::domain::SOURCES;
+use crate::aplic::domain::{HARTS, SOURCES};
+use crate::aplic::hart::HartRegister;
 use crate::aplic::source::Act;
 
 /// A register with one bit for each of 32 sources.
@@ -95,7 +96,7 @@ impl Number {
     }
 }
 
-/// A register of the domain; the number is that of a source, or of 32 sources.
+/// A register of the domain; the number is that of a source, of 32 sources, or of a hart.
 #[derive(Clone, Copy, Debug, PartialEq, Eq, PartialOrd, Ord)]
 pub enum Register {
     Domaincfg,
@@ -103,6 +104,7 @@ pub enum Register {
     Mask(Mask, u64),
     Number(Number),
     Target(u64),
+    Hart(u64, HartRegister),
 }
 
 /// Table 1: target[n] is at 0x3000 + 4 n; at 0x3000 itself is genmsi.
@@ -110,6 +112,11 @@ const TARGETS: u64 = 0x3000;
 
 /// Mask registers that have a source of the domain: sources 0 to 31, and 32 to 63.
 const HALVES: u64 = 2;
+
+/// 4.1.5: "Starting at offset 0x4000 .. an array of interrupt delivery control (IDC) structures", "32
+/// bytes per structure".
+const STRUCTURES: u64 = 0x4000;
+const STRUCTURE: u64 = 32;
 
 impl Register {
     /// Every register, in the order of their offsets.
@@ -121,6 +128,9 @@ impl Register {
         }
         all.extend(Number::ALL.map(Register::Number));
         all.extend((1..=SOURCES).map(Register::Target));
+        for hart in 0..HARTS {
+            all.extend(HartRegister::ALL.map(|register| Register::Hart(hart, register)));
+        }
         all.sort_by_key(|register| register.offset());
         all
     }
@@ -132,12 +142,13 @@ impl Register {
             Register::Mask(mask, half) => mask.base() + 4 * half,
             Register::Number(number) => number.offset(),
             Register::Target(source) => TARGETS + 4 * source,
+            Register::Hart(hart, register) => STRUCTURES + STRUCTURE * hart + register.offset(),
         }
     }
 
     /// The register at an offset. 4.1.5: everything else is read-only zeros, and so is what belongs to
-    /// sources that aren't implemented; 02, Req 07: genmsi and setipnum_be too. Only naturally
-    /// aligned accesses are supported, and others are ignored.
+    /// sources that aren't implemented, or to harts that the domain hasn't; 02, Req 07: genmsi and
+    /// setipnum_be too. Only naturally aligned accesses are supported, and others are ignored.
     pub fn at(offset: u64) -> Option<Register> {
         if !offset.is_multiple_of(4) {
             return None;
@@ -158,6 +169,12 @@ impl Register {
         if let Some(number) = Number::ALL.into_iter().find(|n| n.offset() == offset) {
             return Some(Register::Number(number));
         }
+        if let Some(place) = offset.checked_sub(STRUCTURES) {
+            let (hart, place) = (place / STRUCTURE, place % STRUCTURE);
+            let mut registers = HartRegister::ALL.into_iter();
+            let register = registers.find(|register| register.offset() == place)?;
+            return (hart < HARTS).then_some(Register::Hart(hart, register));
+        }
         let half_of = |mask: &Mask| offset.checked_sub(mask.base()).map(|beyond| beyond / 4);
         let mask = Mask::ALL
             .into_iter()
@@ -172,6 +189,7 @@ impl Register {
             Register::Mask(mask, half) => format!("{}[{half}]", mask.name()),
             Register::Number(number) => number.name().to_string(),
             Register::Target(source) => format!("target[{source}]"),
+            Register::Hart(hart, register) => format!("{} of hart {hart}", register.name()),
         }
     }
 }
@@ -183,7 +201,7 @@ mod tests {
     #[test]
     fn each_register_is_at_its_offset() {
         let all = Register::all();
-        assert_eq!(all.len(), 1 + 63 + 8 + 5 + 63);
+        assert_eq!(all.len(), 1 + 63 + 8 + 5 + 63 + 16 * 5);
         let found = (0..0x10_0000).filter_map(Register::at);
         assert!(found.eq(all.iter().copied()));
         for register in all {

@@ -1,25 +1,32 @@
 //! Lists of a domain's calls as plain text, from a domain at reset on:
 //!
 //! ```text
-//! domain INDEX
+//! domain INDEX                           (domain INDEX direct, for direct delivery)
 //! wire SOURCE high|low = done
 //! read OFFSET = VALUE                    (hexadecimal)
 //! write OFFSET VALUE = done              (hexadecimal)
 //! forward = HART GUEST IDENTITY
+//! claim HART = VALUE                     (the value hexadecimal)
+//! signal HART = yes|no
 //! end
 //! ```
 //!
-//! A refused wire answers `refused 2014`, a forward of nothing `none`. A line that begins with # is a
-//! remark.
+//! A refused wire, claim or signal answers `refused 2014`, a forward of nothing `none`. A line that
+//! begins with # is a remark.
 
 use crate::aplic::domain::{Answer, Call, Domain};
+use crate::aplic::generate::List;
+use crate::aplic::source::Delivery;
 use crate::text::Rerun;
 
 /// A list's text, with the answers that this program gives.
-pub fn write_list(index: u64, calls: &[Call]) -> String {
-    let mut domain = Domain::new();
-    let mut text = format!("domain {index}\n");
-    for call in calls {
+pub fn write_list(index: u64, list: &List) -> String {
+    let mut domain = Domain::new(list.delivery);
+    let mut text = match list.delivery {
+        Delivery::Message => format!("domain {index}\n"),
+        Delivery::Direct => format!("domain {index} direct\n"),
+    };
+    for call in &list.calls {
         let answer = write_answer(domain.run(call));
         text += &format!("{} = {answer}\n", write_call(call));
     }
@@ -34,6 +41,8 @@ pub fn write_call(call: &Call) -> String {
         Call::Read { offset } => format!("read {offset:x}"),
         Call::Write { offset, value } => format!("write {offset:x} {value:x}"),
         Call::Forward => "forward".to_string(),
+        Call::Claim { hart } => format!("claim {hart}"),
+        Call::Signal { hart } => format!("signal {hart}"),
     }
 }
 
@@ -47,6 +56,8 @@ pub fn write_answer(answer: Answer) -> String {
             "{} {} {}",
             message.hart_index, message.guest_index, message.identity
         ),
+        Answer::Signalled(true) => "yes".to_string(),
+        Answer::Signalled(false) => "no".to_string(),
     }
 }
 
@@ -54,7 +65,7 @@ pub fn write_answer(answer: Answer) -> String {
 #[derive(Clone, Debug, Default, PartialEq, Eq)]
 pub struct Written {
     pub index: u64,
-    pub calls: Vec<Call>,
+    pub list: List,
     pub answers: Vec<String>,
 }
 
@@ -66,18 +77,25 @@ pub fn read_lists(text: &str, mut each: impl FnMut(Written)) -> Result<(), Strin
         let (left, right) = line.split_once(" = ").unwrap_or((line, ""));
         let words: Vec<&str> = left.split(' ').collect();
         match (&words[..], &mut open) {
-            (["domain", index], _) => {
+            (["domain", index, mode @ ..], _) => {
                 open.take().map(&mut each);
-                open = Some(Written {
+                let mut written = Written {
                     index: index.parse().map_err(|_| broken())?,
                     ..Written::default()
-                });
+                };
+                written.list.delivery = match mode {
+                    [] => Delivery::Message,
+                    ["direct"] => Delivery::Direct,
+                    _ => return Err(broken()),
+                };
+                open = Some(written);
             }
             (["end"], Some(_)) => {
                 open.take().map(&mut each);
             }
             (words, Some(written)) => {
-                written.calls.push(read_call(words).ok_or_else(broken)?);
+                let call = read_call(words).ok_or_else(broken)?;
+                written.list.calls.push(call);
                 written.answers.push(right.to_string());
             }
             _ => return Err(broken()),
@@ -102,6 +120,12 @@ fn read_call(words: &[&str]) -> Option<Call> {
             value: u32::from_str_radix(value, 16).ok()?,
         },
         ["forward"] => Call::Forward,
+        ["claim", hart] => Call::Claim {
+            hart: hart.parse().ok()?,
+        },
+        ["signal", hart] => Call::Signal {
+            hart: hart.parse().ok()?,
+        },
         _ => return None,
     };
     Some(call)
@@ -112,8 +136,8 @@ pub fn rerun(text: &str) -> Result<Rerun, String> {
     let mut result = Rerun::default();
     read_lists(text, |written| {
         result.lists += 1;
-        let mut domain = Domain::new();
-        for (call, expected) in written.calls.iter().zip(&written.answers) {
+        let mut domain = Domain::new(written.list.delivery);
+        for (call, expected) in written.list.calls.iter().zip(&written.answers) {
             result.calls += 1;
             if write_answer(domain.run(call)) != *expected {
                 let line = format!("{} = {expected}", write_call(call));
@@ -137,7 +161,7 @@ mod tests {
         }
         let mut index = 0;
         let read = read_lists(&text, |written| {
-            assert_eq!((written.index, written.calls), (index, list(7, index)));
+            assert_eq!((written.index, written.list), (index, list(7, index)));
             index += 1;
         });
         assert_eq!((read, index), (Ok(()), 50));
@@ -147,10 +171,16 @@ mod tests {
 
     #[test]
     fn other_lines_are_named() {
-        for line in ["forward", "domain x", "end"] {
+        for line in ["forward", "domain x", "domain 0 indirect", "end"] {
             assert!(read_lists(line, |_| {}).is_err(), "{line}");
         }
-        for line in ["wire 1 up", "read", "write 0 100000000", "take 1 2"] {
+        for line in [
+            "wire 1 up",
+            "read",
+            "write 0 100000000",
+            "claim",
+            "take 1 2",
+        ] {
             let text = format!("domain 0\n{line}\n");
             assert_eq!(
                 read_lists(&text, |_| {}),

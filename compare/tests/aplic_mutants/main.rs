@@ -1,10 +1,14 @@
 //! Domains that are wrong on purpose: each is found, made small, printed, and found again from the
 //! printed text.
 
+mod direct;
+
 use yasmurekh_compare::aplic::{Comparison, Difference, Library, Side};
 use yasmurekh_compare::{run, Found, Options};
 use yasmurekh_reference::aplic::text::read_lists;
-use yasmurekh_reference::aplic::{Answer, Call, Domain, Mask, Mode, Number, Register, Source};
+use yasmurekh_reference::aplic::{
+    Answer, Call, Delivery, Domain, List, Mask, Message, Mode, Number, Register, Source,
+};
 
 /// Room for what a wrong domain keeps and a right one doesn't.
 type Scratch = [u32; 64];
@@ -78,6 +82,14 @@ impl PartialEq for Mutant {
 }
 
 impl Side for Mutant {
+    fn reset(&self, delivery: Delivery) -> Mutant {
+        Mutant {
+            domain: Domain::new(delivery),
+            scratch: [0; 64],
+            rule: self.rule,
+        }
+    }
+
     fn call(&mut self, call: &Call) -> Answer {
         let before = self.domain.clone();
         let answer = self.domain.run(call);
@@ -93,13 +105,13 @@ impl Side for Mutant {
 const OPTIONS: Options = Options {
     seed: 3,
     from: 0,
-    count: 100_000,
+    count: 300_000,
 };
 
 /// Runs a wrong domain until it differs, and sees that the printed text differs in the same way.
-fn find(rule: Rule) -> Found<Vec<Call>, Difference> {
+fn find(rule: Rule) -> Found<List, Difference> {
     let mutant = Mutant {
-        domain: Domain::new(),
+        domain: Domain::new(Delivery::Message),
         scratch: [0; 64],
         rule,
     };
@@ -108,7 +120,7 @@ fn find(rule: Rule) -> Found<Vec<Call>, Difference> {
     let found = outcome.found.expect("a difference");
     println!("{}", found.text);
     let mut lists = Vec::new();
-    read_lists(&found.text, |written| lists.push(written.calls)).expect("readable");
+    read_lists(&found.text, |written| lists.push(written.list)).expect("readable");
     assert_eq!(lists, std::slice::from_ref(&found.smallest));
     let again = comparison.list(&lists[0]);
     assert_eq!(again, Err(found.smallest_difference.clone()));
@@ -119,7 +131,7 @@ fn find(rule: Rule) -> Found<Vec<Call>, Difference> {
 fn find_each(rules: &[(&str, Rule)]) {
     for (name, rule) in rules {
         println!("# {name}");
-        let calls = find(*rule).smallest.len();
+        let calls = find(*rule).smallest.calls.len();
         assert!(calls < 10, "{name}: {calls} calls");
     }
 }
@@ -737,6 +749,15 @@ fn targets() {
     find_each(TARGETS);
 }
 
+/// The message of a source.
+fn sent(source: &Source) -> Message {
+    Message {
+        hart_index: source.target.hart_index,
+        guest_index: source.target.guest_index,
+        identity: source.target.identity,
+    }
+}
+
 /// The source that a forward took, if any.
 fn taken(step: &Step, after: &Domain) -> Option<u64> {
     let changed = |(number, source): &(u64, &Source)| after.source(*number) != Some(*source);
@@ -781,7 +802,7 @@ const FORWARDS: &[(&str, Rule)] = &[
                 each(after, |number, source| {
                     if number == last {
                         source.pending = false;
-                        message = Some(source.target);
+                        message = Some(sent(source));
                     }
                 });
                 Answer::Forwarded(message)
@@ -814,7 +835,7 @@ const FORWARDS: &[(&str, Rule)] = &[
             let pending = step.before.sources().find(|(_, source)| source.pending);
             let message = pending.map(|(number, source)| {
                 each(after, |other, source| source.pending &= other != number);
-                source.target
+                sent(source)
             });
             Answer::Forwarded(message)
         }
