@@ -3,15 +3,17 @@ use mathlib.Core.Path.{_≡_, refl, sym, subst}
 use mathlib.Core.Bool.{Bool, true, false, not, _&&_, _||_}
 use mathlib.Core.List.{List, [], _∷_}
 use Prim.Native.Nat.{ℕ}
-use lib.Dec.{eqb}
+use lib.Dec.{eqb, ltb}
 use Rattle.memory.specs.Bits.{bits}
 use Rattle.memory.specs.Choice.{pick}
 use Rattle.word.specs.Word.{inside, only}
 use Rattle.register.specs.declared.BitRegister.{BitRegister}
 use Rattle.register.specs.declared.BitRegister.the-variants.{SetIp, SetIpNum, InClrIp, ClrIpNum, SetIe, SetIeNum, ClrIe, ClrIeNum}
 use Rattle.register.specs.declared.Register.{Register}
-use Rattle.register.specs.declared.Register.the-variants.{DomainCfg, SourceCfg, OfBits, Target, OfHart, ClaimI, Nothing}
-use Rattle.register.specs.Register.{registerOf}
+use Rattle.register.specs.declared.Register.the-variants.{DomainCfg, SourceCfg, OfBits, Target, Nothing}
+use Rattle.register.specs.declared.Idc.{Idc}
+use Rattle.register.specs.declared.Idc.the-variants.{OfHart, ClaimI, Reserved}
+use Rattle.register.specs.Register.{registerOf, idcOf}
 use Rattle.hart.specs.Hart.{wroteOf}
 use Rattle.source.specs.declared.Delivery.{Delivery}
 use Rattle.source.specs.declared.Delivery.the-variants.{Direct, Message}
@@ -20,8 +22,8 @@ use Rattle.source.specs.declared.Mode.the-variants.{Inactive, Detached, Edge1, 
 use Rattle.source.specs.declared.Source.{Source}
 use Rattle.source.specs.Source.{modeOf, activeOf, rectified, Event, input, setip, clrip, delivered, pendingAfter, rises, befalls, sensed, raised, lowered, handed, allowed, configured, configuredPending, configuredTarget, aimed}
 use Rattle.source.specs.Table.{Table, startOf, act}
-use Rattle.aplic.specs.Direct.{reaches, withHart, topi, claimTable, claimHart, claimed, writeHart}
-use Rattle.aplic.specs.Calls.{wireTable, concerned, change, enabledBy, writeRegister, writeTable, claimedBy, afterRead, forwardTable, sends, topOf}
+use Rattle.aplic.specs.Direct.{reaches, withHart, topi, claimTable, claimHart, claimed, writeHart, writeIdc, claimedBy}
+use Rattle.aplic.specs.Calls.{wireTable, concerned, change, enabledBy, writeRegister, writeTable, afterRead, forwardTable, sends, topOf}
 use Rattle.aplic.specs.Run.{Call, wire, write, read, forward, claim, signal, after, afterAll}
 use Rattle.aplic.specs.Always.{LevelSound, SoundAs, Sound}
 
@@ -147,18 +149,26 @@ acts sel f t keep h i = go (inside i && sel i)
     go false = h i
 
 written : (g : Register) (v : ℕ) (t : Table) → Sound t → Sound (writeRegister g v t)
-unfolding writeRegister enabledBy writeHart withHart
+unfolding writeRegister enabledBy
 written DomainCfg v t h = h
 written (SourceCfg n) v t h = acts (only n) (configured (t .delivery) v) t (λ s k. configured-at (t .delivery) v s) h
 written (OfBits b) v t h = acts (concerned b v) (change (t .delivery) b) t (keeps-change (t .delivery) b) h
 written (Target n) v t h = acts (only n) (aimed (t .delivery) v) t (λ s k. aimed-at (t .delivery) v (s .mode) (s .wire) (s .pending) (s .enable) (s .target) k) h
-written (OfHart n k) v t h = go (reaches n t)
+written Nothing v t h = h
+
+idc-written : (g : Idc) (v : ℕ) (t : Table) → Sound t → Sound (writeIdc g v t)
+unfolding writeIdc writeHart withHart
+idc-written (OfHart n k) v t h = go (reaches n t)
   where
     go : (b : Bool) → Sound (pick b (withHart n (wroteOf k v (t .hart n)) t) t)
     go true = h
     go false = h
-written (ClaimI n) v t h = h
-written Nothing v t h = h
+idc-written (ClaimI n) v t h = h
+idc-written Reserved v t h = h
+
+by-span : (b : Bool) (x y : Table) → Sound x → Sound y → Sound (pick b x y)
+by-span true x y p q = p
+by-span false x y p q = q
 
 claim-kept : (n : ℕ) (t : Table) → Sound t → Sound (claimed n t)
 unfolding claimed withHart claimTable
@@ -170,21 +180,17 @@ claim-kept n t h = go (reaches n t) (eqb (topi n (t .hart n .threshold) t) 0)
     go true false = acts (only (bits (topi n (t .hart n .threshold) t) 25 16)) (handed (t .delivery)) t (λ s k. handed-at (t .delivery) s k) h
     go false c = h
 
-read-kept : (g : Register) (t : Table) → Sound t → Sound (claimedBy g t)
+read-kept : (g : Idc) (t : Table) → Sound t → Sound (claimedBy g t)
 unfolding claimedBy
-read-kept DomainCfg t h = h
-read-kept (SourceCfg n) t h = h
-read-kept (OfBits b) t h = h
-read-kept (Target n) t h = h
 read-kept (OfHart n k) t h = h
 read-kept (ClaimI n) t h = claim-kept n t h
-read-kept Nothing t h = h
+read-kept Reserved t h = h
 
 kept : (t : Table) (c : Call) → Sound t → Sound (after t c)
 unfolding wireTable writeTable afterRead forwardTable
 kept t (wire n level) h = acts (only n) (sensed (t .delivery) level) t (λ s k. sensed-at (t .delivery) level (s .mode) (s .wire) (s .pending) (s .enable) (s .target) k) h
-kept t (write o v) h = written (registerOf o) v t h
-kept t (read o) h = read-kept (registerOf o) t h
+kept t (write o v) h = by-span (ltb o 0x4000) _ _ (written (registerOf o) v t h) (idc-written (idcOf o) v t h)
+kept t (read o) h = read-kept (idcOf o) t h
 kept t (claim n) h = claim-kept n t h
 kept t (signal n) h = h
 kept t forward h = go (sends t)

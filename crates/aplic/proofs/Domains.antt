@@ -15,8 +15,10 @@ use Rattle.word.specs.Word.{marks, inside, only, digit, lowest, putOf}
 use Rattle.word.proofs.Bits.{and-true, within, is-inside, zero-digit}
 use Rattle.register.specs.declared.BitRegister.{BitRegister}
 use Rattle.register.specs.declared.Register.{Register}
-use Rattle.register.specs.declared.Register.the-variants.{DomainCfg, SourceCfg, OfBits, Target, OfHart, ClaimI, Nothing}
-use Rattle.register.specs.Register.{registerOf}
+use Rattle.register.specs.declared.Register.the-variants.{DomainCfg, SourceCfg, OfBits, Target, Nothing}
+use Rattle.register.specs.declared.Idc.{Idc}
+use Rattle.register.specs.declared.Idc.the-variants.{OfHart, ClaimI, Reserved}
+use Rattle.register.specs.Register.{registerOf, idcOf}
 use Rattle.register.proofs.Known.{source-above, source-below, target-above, target-below}
 use Rattle.register.specs.declared.HartRegister.{HartRegister}
 use Rattle.register.specs.declared.HartRegister.the-variants.{IDelivery, IForce, IThreshold, TopI}
@@ -34,10 +36,10 @@ use Rattle.sources.specs.Sources.{sourceOf, tableWith, Acts, lined, firstWaitin
 use Rattle.aplic.specs.declared.Domain.{Domain}
 use Rattle.aplic.specs.declared.Msi.{Msi}
 use Rattle.aplic.specs.declared.Sent.the-variants.{Idle, Forwarded}
-use Rattle.aplic.specs.Calls.{wireTable, wireRefusal, concerned, change, enabledBy, writeRegister, writeTable, readRegister, readTable, claimedBy, afterRead, deliveryNumber, domainWord, forwardTable, sends, sentOf, msiOf}
-use Rattle.aplic.specs.Direct.{reaches, withHart, topAt, topi, claimTable, claimHart, claimed, claimValue, writeHart, readHart, signalled, tells}
+use Rattle.aplic.specs.Calls.{wireTable, wireRefusal, concerned, change, enabledBy, writeRegister, readRegister, deliveryNumber, domainWord, forwardTable, sends, sentOf, msiOf}
+use Rattle.aplic.specs.Direct.{reaches, withHart, topAt, topi, claimTable, claimHart, claimed, claimValue, writeHart, readHart, writeIdc, readIdc, claimedBy, signalled, tells}
 use Rattle.aplic.specs.Domain.{commonOf, tableOf, Shows}
-use Rattle.aplic.proofs.Tables.{same-table, acts-ext, handed-is, written, told, stays, acts-table, row-at, configured-table, aimed-table, wired-table, unwired-table, none-sent, none-waits, kept-table, kept-sent, forwarded-table, forwarded-sent}
+use Rattle.aplic.proofs.Tables.{same-table, acts-ext, handed-is, written, told, idc-written, idc-told, idc-left, acts-table, row-at, configured-table, aimed-table, wired-table, unwired-table, none-sent, none-waits, kept-table, kept-sent, forwarded-table, forwarded-sent}
 use Rattle.aplic.proofs.Tops.{Looked, looked-first, looked-next, looked-less, looked-done}
 use Rattle.aplic.proofs.Claims.{reach-yes, reach-mode, reach-refused, below-of, unreached-topi, unreached-table, unreached-hart, unreached-claim, unreached-value, unreached-write, unreached-read, unreached-signal}
 use Rattle.aplic.proofs.Claims.{top-reached, nothing-topi, nothing-table, nothing-hart, taken-hart, taken-table, claimed-by, claim-small, wrote-is, tells-delivery, tells-force, tells-threshold, tells-top, table-forced, table-top, table-off}
@@ -152,99 +154,92 @@ module _ (d : Domain) where
 
   -- ---- a write
   module _ (o v : ℕ) (g : Register) (p : g ≡ registerOf o) where
-    pub write-nothing : g ≡ Nothing → tableOf d ≡ writeTable o v (tableOf d)
+    pub write-nothing : g ≡ Nothing → tableOf d ≡ writeRegister (registerOf o) v (tableOf d)
     unfolding writeRegister
     write-nothing q = written o v g p Nothing (tableOf d) _ q refl
 
-    pub write-domain : g ≡ DomainCfg → tableOf (record { delivery = d .delivery; enable = eqb (v / 256 % 2) 1; sources = d .sources; targets = d .targets; harts = d .harts }) ≡ writeTable o v (tableOf d)
+    pub write-domain : g ≡ DomainCfg → tableOf (record { delivery = d .delivery; enable = eqb (v / 256 % 2) 1; sources = d .sources; targets = d .targets; harts = d .harts }) ≡ writeRegister (registerOf o) v (tableOf d)
     unfolding writeRegister enabledBy tableOf tableWith
     write-domain q = written o v g p DomainCfg (tableOf d) _ q refl
 
-    pub write-bits : (b : BitRegister) (x : Sources) → g ≡ OfBits b → Acts (concerned b v) (change (d .delivery) b) (d .sources) x → tableOf (withSources d x) ≡ writeTable o v (tableOf d)
+    pub write-bits : (b : BitRegister) (x : Sources) → g ≡ OfBits b → Acts (concerned b v) (change (d .delivery) b) (d .sources) x → tableOf (withSources d x) ≡ writeRegister (registerOf o) v (tableOf d)
     unfolding writeRegister tableOf tableWith
     write-bits b x q a = written o v g p (OfBits b) (tableOf d) _ q (acts-table (commonOf d) (d .sources) x (aims (d .targets)) (concerned b v) (change (d .delivery) b) a)
 
     module _ (n : ℕ) (r : Domain) where
-      pub write-source : g ≡ SourceCfg n → tableOf r ≡ act (only n) (configured (d .delivery) v) (tableOf d) → tableOf r ≡ writeTable o v (tableOf d)
+      pub write-source : g ≡ SourceCfg n → tableOf r ≡ act (only n) (configured (d .delivery) v) (tableOf d) → tableOf r ≡ writeRegister (registerOf o) v (tableOf d)
       unfolding writeRegister tableOf tableWith
       write-source q e = written o v g p (SourceCfg n) (tableOf d) _ q e
 
-      pub write-target : g ≡ Target n → tableOf r ≡ act (only n) (aimed (d .delivery) v) (tableOf d) → tableOf r ≡ writeTable o v (tableOf d)
+      pub write-target : g ≡ Target n → tableOf r ≡ act (only n) (aimed (d .delivery) v) (tableOf d) → tableOf r ≡ writeRegister (registerOf o) v (tableOf d)
       unfolding writeRegister tableOf tableWith
       write-target q e = written o v g p (Target n) (tableOf d) _ q e
 
-      pub write-hart : (k : HartRegister) → g ≡ OfHart n k → tableOf r ≡ writeHart n k v (tableOf d) → tableOf r ≡ writeTable o v (tableOf d)
-      unfolding writeRegister
-      write-hart k q e = written o v g p (OfHart n k) (tableOf d) _ q e
-
-    pub write-claim : (h : ℕ) → g ≡ ClaimI h → tableOf d ≡ writeTable o v (tableOf d)
-    unfolding writeRegister
-    write-claim h q = written o v g p (ClaimI h) (tableOf d) _ q refl
-
   -- ---- a read
   module _ (o x : ℕ) (g : Register) (p : g ≡ registerOf o) where
-    pub read-nothing : g ≡ Nothing → x ≡ 0 → x ≡ readTable o (tableOf d)
+    pub read-nothing : g ≡ Nothing → x ≡ 0 → x ≡ readRegister (registerOf o) (tableOf d)
     unfolding readRegister
     read-nothing q e = told o x g p Nothing (tableOf d) q e
 
-    pub read-domain : g ≡ DomainCfg → x ≡ domainWord (d .enable) (d .delivery) → x ≡ readTable o (tableOf d)
+    pub read-domain : g ≡ DomainCfg → x ≡ domainWord (d .enable) (d .delivery) → x ≡ readRegister (registerOf o) (tableOf d)
     unfolding readRegister tableOf tableWith
     read-domain q e = told o x g p DomainCfg (tableOf d) q e
 
-    pub read-bits : (b : BitRegister) → g ≡ OfBits b → Shows b (d .sources) x → x ≡ readTable o (tableOf d)
+    pub read-bits : (b : BitRegister) → g ≡ OfBits b → Shows b (d .sources) x → x ≡ readRegister (registerOf o) (tableOf d)
     unfolding readRegister tableOf Shows
     read-bits b q h = told o x g p (OfBits b) (tableOf d) q (h (commonOf d) (aims (d .targets)))
 
     module _ (n : ℕ) where
-      pub read-source : g ≡ SourceCfg n → x ≡ numberOf (sourceOf (d .sources) n 0 .mode) → x ≡ readTable o (tableOf d)
+      pub read-source : g ≡ SourceCfg n → x ≡ numberOf (sourceOf (d .sources) n 0 .mode) → x ≡ readRegister (registerOf o) (tableOf d)
       unfolding readRegister tableOf sourceOf
       read-source q e =
           told o x g p (SourceCfg n) (tableOf d) q
           (e ∙ ap (λ (y : Source). numberOf (y .mode)) (row-at (commonOf d) (d .sources) (d .sources) (aims (d .targets)) n (source-above o n g p q) (source-below o n g p q)))
 
-      pub read-target : g ≡ Target n → x ≡ getD (d .targets) n 0 → x ≡ readTable o (tableOf d)
+      pub read-target : g ≡ Target n → x ≡ getD (d .targets) n 0 → x ≡ readRegister (registerOf o) (tableOf d)
       unfolding readRegister tableOf sourceOf
       read-target q e =
           told o x g p (Target n) (tableOf d) q
           (e ∙ ap (λ (y : Source). y .target) (row-at (commonOf d) (d .sources) (d .sources) (aims (d .targets)) n (target-above o n g p q) (target-below o n g p q)))
 
-    pub read-hart : (h : ℕ) (k : HartRegister) → g ≡ OfHart h k → x ≡ readHart h k (tableOf d) → x ≡ readTable o (tableOf d)
-    unfolding readRegister
-    read-hart h k q e = told o x g p (OfHart h k) (tableOf d) q e
+  -- ---- the IDC structures
+  module _ (o v : ℕ) (g : Idc) (p : g ≡ idcOf o) where
+    pub write-hart : (h : ℕ) (k : HartRegister) (r : Domain) → g ≡ OfHart h k → tableOf r ≡ writeHart h k v (tableOf d) → tableOf r ≡ writeIdc (idcOf o) v (tableOf d)
+    unfolding writeIdc
+    write-hart h k r q e = idc-written o v g p (OfHart h k) (tableOf d) _ q e
 
-    pub read-claim : (h : ℕ) → g ≡ ClaimI h → x ≡ claimValue h (tableOf d) → x ≡ readTable o (tableOf d)
-    unfolding readRegister
-    read-claim h q e = told o x g p (ClaimI h) (tableOf d) q e
+    pub write-claim : (h : ℕ) → g ≡ ClaimI h → tableOf d ≡ writeIdc (idcOf o) v (tableOf d)
+    unfolding writeIdc
+    write-claim h q = idc-written o v g p (ClaimI h) (tableOf d) _ q refl
 
-  -- what a read leaves
-  module _ (o : ℕ) (g : Register) (p : g ≡ registerOf o) where
-    pub left-nothing : g ≡ Nothing → tableOf d ≡ afterRead o (tableOf d)
+    pub write-reserved : g ≡ Reserved → tableOf d ≡ writeIdc (idcOf o) v (tableOf d)
+    unfolding writeIdc
+    write-reserved q = idc-written o v g p Reserved (tableOf d) _ q refl
+
+    pub read-hart : (h : ℕ) (k : HartRegister) → g ≡ OfHart h k → v ≡ readHart h k (tableOf d) → v ≡ readIdc (idcOf o) (tableOf d)
+    unfolding readIdc
+    read-hart h k q e = idc-told o v g p (OfHart h k) (tableOf d) q e
+
+    pub read-claim : (h : ℕ) → g ≡ ClaimI h → v ≡ claimValue h (tableOf d) → v ≡ readIdc (idcOf o) (tableOf d)
+    unfolding readIdc
+    read-claim h q e = idc-told o v g p (ClaimI h) (tableOf d) q e
+
+    pub read-reserved : g ≡ Reserved → v ≡ 0 → v ≡ readIdc (idcOf o) (tableOf d)
+    unfolding readIdc
+    read-reserved q e = idc-told o v g p Reserved (tableOf d) q e
+
+  module _ (o : ℕ) (g : Idc) (p : g ≡ idcOf o) where
+    pub left-hart : (h : ℕ) (k : HartRegister) → g ≡ OfHart h k → tableOf d ≡ claimedBy (idcOf o) (tableOf d)
     unfolding claimedBy
-    left-nothing q = stays o 0 g p Nothing (tableOf d) _ q refl
+    left-hart h k q = idc-left o 0 g p (OfHart h k) (tableOf d) _ q refl
 
-    pub left-domain : g ≡ DomainCfg → tableOf d ≡ afterRead o (tableOf d)
+    pub left-claim : (h : ℕ) (r : Domain) → g ≡ ClaimI h → tableOf r ≡ claimed h (tableOf d) → tableOf r ≡ claimedBy (idcOf o) (tableOf d)
     unfolding claimedBy
-    left-domain q = stays o 0 g p DomainCfg (tableOf d) _ q refl
+    left-claim h r q e = idc-left o 0 g p (ClaimI h) (tableOf d) _ q e
 
-    pub left-bits : (b : BitRegister) → g ≡ OfBits b → tableOf d ≡ afterRead o (tableOf d)
+    pub left-reserved : g ≡ Reserved → tableOf d ≡ claimedBy (idcOf o) (tableOf d)
     unfolding claimedBy
-    left-bits b q = stays o 0 g p (OfBits b) (tableOf d) _ q refl
-
-    pub left-source : (n : ℕ) → g ≡ SourceCfg n → tableOf d ≡ afterRead o (tableOf d)
-    unfolding claimedBy
-    left-source n q = stays o 0 g p (SourceCfg n) (tableOf d) _ q refl
-
-    pub left-target : (n : ℕ) → g ≡ Target n → tableOf d ≡ afterRead o (tableOf d)
-    unfolding claimedBy
-    left-target n q = stays o 0 g p (Target n) (tableOf d) _ q refl
-
-    pub left-hart : (h : ℕ) (k : HartRegister) → g ≡ OfHart h k → tableOf d ≡ afterRead o (tableOf d)
-    unfolding claimedBy
-    left-hart h k q = stays o 0 g p (OfHart h k) (tableOf d) _ q refl
-
-    pub left-claim : (h : ℕ) (r : Domain) → g ≡ ClaimI h → tableOf r ≡ claimed h (tableOf d) → tableOf r ≡ afterRead o (tableOf d)
-    unfolding claimedBy
-    left-claim h r q e = stays o 0 g p (ClaimI h) (tableOf d) _ q e
+    left-reserved q = idc-left o 0 g p Reserved (tableOf d) _ q refl
 
   -- ---- a forward
   pub forward-off : (b : Bool) → b ≡ directOf (d .delivery) → d .enable && not b ≡ false → sends (tableOf d) ≡ false
@@ -461,10 +456,14 @@ pub ruleset wires = (wire-goes, wire-stays)
 
 pub ruleset ones = (configure-goes, aim-goes)
 
-pub ruleset writes = (write-nothing, write-domain, write-bits, write-source, write-target, write-hart, write-claim)
+pub ruleset writes = (write-nothing, write-domain, write-bits, write-source, write-target)
 
-pub ruleset reads = (read-nothing, read-domain, read-bits, read-source, read-target, read-hart, read-claim)
+pub ruleset idc-writes = (write-hart, write-claim, write-reserved)
 
-pub ruleset lefts = (left-nothing, left-domain, left-bits, left-source, left-target, left-hart, left-claim)
+pub ruleset reads = (read-nothing, read-domain, read-bits, read-source, read-target)
+
+pub ruleset idc-reads = (read-hart, read-claim, read-reserved)
+
+pub ruleset lefts = (left-hart, left-claim, left-reserved)
 
 pub ruleset forwards = (kept-table, kept-sent, forward-off, forward-none, forward-goes, forward-sends)

@@ -12,8 +12,10 @@ use Rattle.word.proofs.Bits.{within, is-inside, lowest-ext, lowest-from, half-e
 use Rattle.register.specs.declared.BitRegister.{BitRegister}
 use Rattle.register.specs.declared.BitRegister.the-variants.{SetIp, SetIpNum, InClrIp, ClrIpNum, SetIe, SetIeNum, ClrIe, ClrIeNum}
 use Rattle.register.specs.declared.Register.{Register}
-use Rattle.register.specs.declared.Register.the-variants.{DomainCfg, SourceCfg, OfBits, Target, OfHart, ClaimI, Nothing}
-use Rattle.register.specs.Register.{registerOf}
+use Rattle.register.specs.declared.Register.the-variants.{DomainCfg, SourceCfg, OfBits, Target, Nothing}
+use Rattle.register.specs.declared.Idc.{Idc}
+use Rattle.register.specs.declared.Idc.the-variants.{Reserved}
+use Rattle.register.specs.Register.{registerOf, idcOf}
 use Rattle.hart.specs.declared.Hart.{Hart}
 use Rattle.source.specs.declared.Delivery.{Delivery}
 use Rattle.source.specs.declared.Delivery.the-variants.{Direct, Message}
@@ -26,7 +28,8 @@ use Rattle.sources.specs.declared.Sources.{Sources}
 use Rattle.sources.specs.Sources.{sourceOf, Common, tableWith, Acts, Inputs, lined, firstWaiting}
 use Rattle.aplic.specs.declared.Msi.{Msi}
 use Rattle.aplic.specs.declared.Sent.the-variants.{Idle, Forwarded}
-use Rattle.aplic.specs.Calls.{concerned, change, writeRegister, writeTable, readBits, readRegister, readTable, claimedBy, afterRead, waiting, topOf, forwards, sends, forwardTable, sentOf, msiOf, wireTable, wireRefusal}
+use Rattle.aplic.specs.Direct.{writeIdc, readIdc, claimedBy}
+use Rattle.aplic.specs.Calls.{concerned, change, writeRegister, writeTable, readBits, readRegister, readTable, afterRead, waiting, topOf, forwards, sends, forwardTable, sentOf, msiOf, wireTable, wireRefusal}
 use Rattle.aplic.specs.Domain.{Shows}
 
 pub same-table : (d e : Delivery) (x y : Bool) (f g : ℕ → Source) (u v : ℕ → Hart) → d ≡ e → x ≡ y → u ≡ v → ((i : ℕ) → f i ≡ g i)
@@ -185,17 +188,51 @@ aimed-table co s targets targets′ n v x hx ht = one-table co s s targets targe
 
 -- ---- by the register that an offset names
 module _ (o v : ℕ) (g : Register) (p : g ≡ registerOf o) where
-  pub written : (h : Register) (t x : Table) → g ≡ h → x ≡ writeRegister h v t → x ≡ writeTable o v t
-  unfolding writeTable
+  pub written : (h : Register) (t x : Table) → g ≡ h → x ≡ writeRegister h v t → x ≡ writeRegister (registerOf o) v t
   written h t x q e = e ∙ ap (λ (k : Register). writeRegister k v t) (sym q ∙ p)
 
-  pub told : (h : Register) (t : Table) → g ≡ h → v ≡ readRegister h t → v ≡ readTable o t
-  unfolding readTable
+  pub told : (h : Register) (t : Table) → g ≡ h → v ≡ readRegister h t → v ≡ readRegister (registerOf o) t
   told h t q e = e ∙ ap (λ (k : Register). readRegister k t) (sym q ∙ p)
 
-  pub stays : (h : Register) (t x : Table) → g ≡ h → x ≡ claimedBy h t → x ≡ afterRead o t
-  unfolding afterRead
-  stays h t x q e = e ∙ ap (λ (k : Register). claimedBy k t) (sym q ∙ p)
+module _ (o v : ℕ) (g : Idc) (p : g ≡ idcOf o) where
+  pub idc-written : (h : Idc) (t x : Table) → g ≡ h → x ≡ writeIdc h v t → x ≡ writeIdc (idcOf o) v t
+  idc-written h t x q e = e ∙ ap (λ (k : Idc). writeIdc k v t) (sym q ∙ p)
+
+  pub idc-told : (h : Idc) (t : Table) → g ≡ h → v ≡ readIdc h t → v ≡ readIdc (idcOf o) t
+  idc-told h t q e = e ∙ ap (λ (k : Idc). readIdc k t) (sym q ∙ p)
+
+  pub idc-left : (h : Idc) (t x : Table) → g ≡ h → x ≡ claimedBy h t → x ≡ claimedBy (idcOf o) t
+  idc-left h t x q e = e ∙ ap (λ (k : Idc). claimedBy k t) (sym q ∙ p)
+
+-- below 0x4000, and from there on
+module _ (o : ℕ) (t : Table) where
+  module _ (l : o < 0x4000) where
+    pub low-written : (v : ℕ) (x : Table) → x ≡ writeRegister (registerOf o) v t → x ≡ writeTable o v t
+    unfolding writeTable
+    low-written v x e = yes-is _ _ _ _ (lt-ltb o 0x4000 l) e
+
+    pub low-told : (v : ℕ) → v ≡ readRegister (registerOf o) t → v ≡ readTable o t
+    unfolding readTable
+    low-told v e = yes-is _ _ _ _ (lt-ltb o 0x4000 l) e
+
+    pub low-left : t ≡ afterRead o t
+    unfolding afterRead claimedBy idcOf
+    low-left = rw (lt-ltb o 0x4000 l)
+
+  module _ (l : 0x4000 ≤ o) where
+    pub high-written : (v : ℕ) (x : Table) → x ≡ writeIdc (idcOf o) v t → x ≡ writeTable o v t
+    unfolding writeTable
+    high-written v x e = no-is _ _ _ _ (le-ltb o 0x4000 l) e
+
+    pub high-told : (v : ℕ) → v ≡ readIdc (idcOf o) t → v ≡ readTable o t
+    unfolding readTable
+    high-told v e = no-is _ _ _ _ (le-ltb o 0x4000 l) e
+
+    pub high-left : (x : Table) → x ≡ claimedBy (idcOf o) t → x ≡ afterRead o t
+    unfolding afterRead
+    high-left x e = e
+
+pub ruleset spans = (low-written, low-told, low-left, high-written, high-told, high-left)
 
 -- what is no source's is left alone
 pub outside : (n : ℕ) (f : Source → Source) (t : Table) → inside n ≡ false → t ≡ act (only n) f t

@@ -1,6 +1,6 @@
 -- What each call does to the table of separate sources and harts, and what it answers.
 use Prim.Native.Nat.{ℕ, _+_, _*_, _^_}
-use mathlib.Core.Bool.{Bool, true, false, not, _&&_}
+use mathlib.Core.Bool.{Bool, true, false, _&&_}
 use lib.Dec.{ltb}
 use Rattle.memory.specs.Bits.{bit, bits}
 use Rattle.memory.specs.Choice.{pick}
@@ -8,14 +8,14 @@ use Rattle.word.specs.Word.{inside, half, chosen, only, digit, lowest}
 use Rattle.register.specs.declared.BitRegister.{BitRegister}
 use Rattle.register.specs.declared.BitRegister.the-variants.{SetIp, SetIpNum, InClrIp, ClrIpNum, SetIe, SetIeNum, ClrIe, ClrIeNum}
 use Rattle.register.specs.declared.Register.{Register}
-use Rattle.register.specs.declared.Register.the-variants.{DomainCfg, SourceCfg, OfBits, Target, OfHart, ClaimI, Nothing}
-use Rattle.register.specs.Register.{registerOf}
+use Rattle.register.specs.declared.Register.the-variants.{DomainCfg, SourceCfg, OfBits, Target, Nothing}
+use Rattle.register.specs.Register.{registerOf, idcOf}
 use Rattle.source.specs.declared.Delivery.{Delivery}
 use Rattle.source.specs.declared.Delivery.the-variants.{Direct, Message}
 use Rattle.source.specs.declared.Source.{Source}
-use Rattle.source.specs.Source.{directOf, numberOf, inputOf, sensed, raised, lowered, handed, allowed, configured, aimed}
+use Rattle.source.specs.Source.{numberOf, inputOf, sensed, raised, lowered, handed, allowed, configured, aimed}
 use Rattle.source.specs.Table.{Table, act}
-use Rattle.aplic.specs.Direct.{claimed, claimValue, writeHart, readHart}
+use Rattle.aplic.specs.Direct.{writeIdc, ignoresIdc, readIdc, claimedBy}
 use Rattle.aplic.specs.declared.Msi.{Msi}
 use Rattle.aplic.specs.declared.Sent.{Sent}
 use Rattle.aplic.specs.declared.Sent.the-variants.{Forwarded, Idle}
@@ -60,22 +60,22 @@ writeRegister DomainCfg v t = enabledBy v t
 writeRegister (SourceCfg n) v t = act (only n) (configured (t .delivery) v) t
 writeRegister (OfBits b) v t = act (concerned b v) (change (t .delivery) b) t
 writeRegister (Target n) v t = act (only n) (aimed (t .delivery) v) t
-writeRegister (OfHart h k) v t = writeHart h k v t
-writeRegister (ClaimI h) v t = t
 writeRegister Nothing v t = t
 
+-- "the first 16 KiB of an interrupt domain's control region", and from 0x4000 on the IDC structures (4.1.5)
 unfoldable pub writeTable : ℕ → ℕ → Table → Table
-writeTable o v t = writeRegister (registerOf o) v t
+writeTable o v t = pick (ltb o 0x4000) (writeRegister (registerOf o) v t) (writeIdc (idcOf o) v t)
 
 -- a write that is ignored, whatever its value is
-unfoldable pub ignores : Delivery → Register → Bool
-ignores d DomainCfg = false
-ignores d (SourceCfg n) = false
-ignores d (OfBits b) = false
-ignores d (Target n) = false
-ignores d (OfHart h k) = not (directOf d)
-ignores d (ClaimI h) = true
-ignores d Nothing = true
+unfoldable pub ignoresRegister : Register → Bool
+ignoresRegister DomainCfg = false
+ignoresRegister (SourceCfg n) = false
+ignoresRegister (OfBits b) = false
+ignoresRegister (Target n) = false
+ignoresRegister Nothing = true
+
+unfoldable pub ignores : Delivery → ℕ → Bool
+ignores d o = pick (ltb o 0x4000) (ignoresRegister (registerOf o)) (ignoresIdc d (idcOf o))
 
 -- ---- a read
 -- DM: 0 direct, 1 message
@@ -103,35 +103,14 @@ readRegister DomainCfg t = domainWord (t .enable) (t .delivery)
 readRegister (SourceCfg n) t = numberOf (t .row n .mode)
 readRegister (OfBits b) t = readBits b t
 readRegister (Target n) t = t .row n .target
-readRegister (OfHart h k) t = readHart h k t
-readRegister (ClaimI h) t = claimValue h t
 readRegister Nothing t = 0
 
 unfoldable pub readTable : ℕ → Table → ℕ
-readTable o t = readRegister (registerOf o) t
+readTable o t = pick (ltb o 0x4000) (readRegister (registerOf o) t) (readIdc (idcOf o) t)
 
--- a read of claimi is a claim; no other register changes anything by being read
-unfoldable pub claimedBy : Register → Table → Table
-claimedBy DomainCfg t = t
-claimedBy (SourceCfg n) t = t
-claimedBy (OfBits b) t = t
-claimedBy (Target n) t = t
-claimedBy (OfHart h k) t = t
-claimedBy (ClaimI h) t = claimed h t
-claimedBy Nothing t = t
-
--- a read that is a claim
-unfoldable pub claims : Delivery → Register → Bool
-claims d DomainCfg = false
-claims d (SourceCfg n) = false
-claims d (OfBits b) = false
-claims d (Target n) = false
-claims d (OfHart h k) = false
-claims d (ClaimI h) = directOf d
-claims d Nothing = false
-
+-- what a read leaves: no register of the first 16 KiB changes by being read
 unfoldable pub afterRead : ℕ → Table → Table
-afterRead o t = claimedBy (registerOf o) t
+afterRead o t = claimedBy (idcOf o) t
 
 -- ---- a forward
 abbrev pub waiting : Table → ℕ → Bool

@@ -1,14 +1,17 @@
 -- Direct delivery: a hart's top interrupt, its claim and its signal, after document 002, section 4.1.8.
 use Prim.Native.Nat.{ℕ, _%_}
-use mathlib.Core.Bool.{Bool, not, _&&_, _||_}
+use mathlib.Core.Bool.{Bool, true, false, not, _&&_, _||_}
 use lib.Dec.{eqb, ltb}
 use Rattle.memory.specs.Bits.{bits}
 use Rattle.memory.specs.Choice.{pick}
 use Rattle.word.specs.Word.{inside, only, digit, lowest}
 use Rattle.register.specs.declared.HartRegister.{HartRegister}
 use Rattle.register.specs.declared.HartRegister.the-variants.{IDelivery, IForce, IThreshold, TopI}
+use Rattle.register.specs.declared.Idc.{Idc}
+use Rattle.register.specs.declared.Idc.the-variants.{OfHart, ClaimI, Reserved}
 use Rattle.hart.specs.declared.Hart.{Hart}
 use Rattle.hart.specs.Hart.{wroteOf, unforced, hartIndex, priority, passes, keyOf, keys, topWord}
+use Rattle.source.specs.declared.Delivery.{Delivery}
 use Rattle.source.specs.declared.Source.{Source}
 use Rattle.source.specs.Source.{handed, directOf}
 use Rattle.source.specs.Table.{Table, act}
@@ -69,6 +72,34 @@ tells TopI x w = w
 
 unfoldable pub readHart : ℕ → HartRegister → Table → ℕ
 readHart h k t = pick (reaches h t) (tells k (t .hart h) (topAt h (t .hart h .threshold) t)) 0
+
+-- ---- what is in the IDC structures (4.1.8.1)
+-- "Writes to topi are ignored" is in `wroteOf`; "Writes to claimi are ignored"
+unfoldable pub writeIdc : Idc → ℕ → Table → Table
+writeIdc (OfHart h k) v t = writeHart h k v t
+writeIdc (ClaimI h) v t = t
+writeIdc Reserved v t = t
+
+unfoldable pub ignoresIdc : Delivery → Idc → Bool
+ignoresIdc d (OfHart h k) = not (directOf d)
+ignoresIdc d (ClaimI h) = true
+ignoresIdc d Reserved = true
+
+unfoldable pub readIdc : Idc → Table → ℕ
+readIdc (OfHart h k) t = readHart h k t
+readIdc (ClaimI h) t = claimValue h t
+readIdc Reserved t = 0
+
+-- a read of claimi is a claim; no other register changes anything by being read
+unfoldable pub claimedBy : Idc → Table → Table
+claimedBy (OfHart h k) t = t
+claimedBy (ClaimI h) t = claimed h t
+claimedBy Reserved t = t
+
+unfoldable pub claims : Delivery → Idc → Bool
+claims d (OfHart h k) = false
+claims d (ClaimI h) = directOf d
+claims d Reserved = false
 
 -- ---- the signal (4.1.8.2)
 -- "When domaincfg.IE = 1 and interrupt delivery is enabled (idelivery = 1), the interrupt signal is asserted whenever either register iforce or topi is not zero"; else it "is held de-asserted"

@@ -9,12 +9,14 @@ ghost use lib.ListN.{getD};
 ghost use Rattle.source.specs.Source.{numberOf, configured, aimed};
 ghost use Rattle.source.specs.Table.{startOf, act};
 ghost use Rattle.sources.specs.Sources.{sourceOf, Acts};
-ghost use Rattle.aplic.specs.Calls.{wireTable, wireRefusal, concerned, change, writeTable, readTable, afterRead, domainWord, forwardTable, sentOf, msiOf};
-ghost use Rattle.aplic.specs.Direct.{topAt, topi, claimTable, claimHart, claimed, claimValue, writeHart, readHart, signalled as signalledOf};
+ghost use Rattle.register.specs.Register.{registerOf, idcOf};
+ghost use Rattle.aplic.specs.Calls.{wireTable, wireRefusal, concerned, change, writeRegister, writeTable, readRegister, readTable, afterRead, domainWord, forwardTable, sentOf, msiOf};
+ghost use Rattle.aplic.specs.Direct.{topAt, topi, claimTable, claimHart, claimed, claimValue, writeHart, readHart, writeIdc, readIdc, claimedBy, signalled as signalledOf};
 ghost use Rattle.aplic.specs.Domain.{tableOf, Shows};
 use hart::Hart;
 use register::BitRegister;
 use register::HartRegister;
+use register::Idc;
 use register::Register;
 use source::Delivery;
 use sources::Sources;
@@ -246,9 +248,9 @@ impl Domain {
         self
     }
 
-    // A register is written: any offset, any value.
-    pub fn write(mut self, offset: u64, v: u32) -> Domain
-        ensures { λ r. ⌜ tableOf r ≡ writeTable offset v (tableOf self) ⌝ }
+    // A register of the first 16 KiB is written.
+    fn write_register(mut self, offset: u64, v: u32) -> Domain
+        ensures { λ r. ⌜ tableOf r ≡ writeRegister (registerOf offset) v (tableOf self) ⌝ }
     {
         let g = register::register_at(offset);
         match g {
@@ -263,10 +265,30 @@ impl Domain {
                 self
             }
             Register::Target(n) => self.aim(n, v),
-            Register::OfHart(h, k) => self.write_hart(h, k, v),
-            Register::ClaimI(_) => self,
             Register::Nothing => self,
         }
+    }
+
+    // A register of a hart is written.
+    fn write_idc(mut self, offset: u64, v: u32) -> Domain
+        ensures { λ r. ⌜ tableOf r ≡ writeIdc (idcOf offset) v (tableOf self) ⌝ }
+    {
+        let g = register::idc_at(offset);
+        match g {
+            Idc::OfHart(h, k) => self.write_hart(h, k, v),
+            Idc::ClaimI(_) => self,
+            Idc::Reserved => self,
+        }
+    }
+
+    // A register is written: any offset, any value.
+    pub fn write(mut self, offset: u64, v: u32) -> Domain
+        ensures { λ r. ⌜ tableOf r ≡ writeTable offset v (tableOf self) ⌝ }
+    {
+        if offset < 0x4000 {
+            return self.write_register(offset, v);
+        }
+        self.write_idc(offset, v)
     }
 
     fn target(self, n: u64) -> u32
@@ -396,38 +418,56 @@ impl Domain {
         }
     }
 
-    // A register is read: any offset.
-    pub fn read(mut self, offset: u64) -> Reading
-        ensures { λ r. ⌜ (tableOf (r .domain) ≡ afterRead offset (tableOf self)) × (r .value ≡ readTable offset (tableOf self)) ⌝ }
+    // What a register of the first 16 KiB tells.
+    fn value(self, offset: u64) -> u32
+        ensures { λ r. ⌜ r ≡ readRegister (registerOf offset) (tableOf self) ⌝ }
     {
         let g = register::register_at(offset);
-        let mut value: u32 = 0;
         match g {
             Register::DomainCfg => {
                 let d = self.delivery;
-                value = domain_word(self.enable, d);
+                domain_word(self.enable, d)
             }
-            Register::SourceCfg(n) => {
-                value = mode_number(self.sources, n);
-            }
-            Register::OfBits(b) => {
-                value = read_bits(self.sources, b);
-            }
-            Register::Target(n) => {
-                value = self.target(n);
-            }
-            Register::OfHart(h, k) => {
+            Register::SourceCfg(n) => mode_number(self.sources, n),
+            Register::OfBits(b) => read_bits(self.sources, b),
+            Register::Target(n) => self.target(n),
+            Register::Nothing => 0,
+        }
+    }
+
+    // A register of a hart is read.
+    fn read_idc(mut self, offset: u64) -> Reading
+        ensures { λ r. ⌜ (tableOf (r .domain) ≡ claimedBy (idcOf offset) (tableOf self)) × (r .value ≡ readIdc (idcOf offset) (tableOf self)) ⌝ }
+    {
+        let g = register::idc_at(offset);
+        let mut value: u32 = 0;
+        match g {
+            Idc::OfHart(h, k) => {
                 value = self.hart_value(h, k);
             }
-            Register::ClaimI(h) => {
+            Idc::ClaimI(h) => {
                 return self.claim_at(h);
             }
-            Register::Nothing => {}
+            Idc::Reserved => {}
         }
         Reading {
             domain: self,
             value: value,
         }
+    }
+
+    // A register is read: any offset.
+    pub fn read(mut self, offset: u64) -> Reading
+        ensures { λ r. ⌜ (tableOf (r .domain) ≡ afterRead offset (tableOf self)) × (r .value ≡ readTable offset (tableOf self)) ⌝ }
+    {
+        if offset < 0x4000 {
+            let value = self.value(offset);
+            return Reading {
+                domain: self,
+                value: value,
+            };
+        }
+        self.read_idc(offset)
     }
 
     // The lowest-numbered source that is pending and enabled is handed out, in message delivery, while the domain's enable is set.

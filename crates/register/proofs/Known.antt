@@ -7,22 +7,22 @@ use borrow.Author.Tests.{eqb-true, eqb-false, ltb-true, ltb-false}
 use lib.Dec.{eqb, ltb}
 use Rattle.memory.specs.Choice.{pick}
 use Rattle.register.specs.declared.BitRegister.{BitRegister}
-use Rattle.register.specs.declared.HartRegister.{HartRegister}
 use Rattle.register.specs.declared.Register.{Register}
-use Rattle.register.specs.declared.Register.the-variants.{DomainCfg, SourceCfg, OfBits, Target, OfHart, ClaimI, Nothing}
-use Rattle.register.specs.Register.{pendingRegister, enableRegister, hartRegister, registerOf}
+use Rattle.register.specs.declared.Register.the-variants.{DomainCfg, SourceCfg, OfBits, Target, Nothing}
+use Rattle.register.specs.declared.HartRegister.{HartRegister}
+use Rattle.register.specs.declared.Idc.{Idc}
+use Rattle.register.specs.declared.Idc.the-variants.{OfHart, ClaimI, Reserved}
+use Rattle.register.specs.Register.{pendingRegister, enableRegister, registerOf, idcOf}
 
 abbrev Inside : ℕ → Type 0
 Inside n = (0 < n) × (n < 64)
 
--- the number that a register carries is a source's or a hart's
+-- the number that a register carries is a source
 Known : Register → Type 0
 Known DomainCfg = Unit {0}
 Known (SourceCfg n) = Inside n
 Known (OfBits b) = Unit {0}
 Known (Target n) = Inside n
-Known (OfHart h k) = h < 16
-Known (ClaimI h) = h < 16
 Known Nothing = Unit {0}
 
 domain : Known DomainCfg
@@ -45,14 +45,6 @@ target : (o : ℕ) → 0x3004 ≤ o → o < 0x3100 → Known (Target ((o - 0x300
 unfolding Known
 target o l h = (omega arith, omega arith)
 
-of-hart : (o : ℕ) (k : HartRegister) → 0x4000 ≤ o → o < 0x4200 → Known (OfHart ((o - 0x4000) / 32) k)
-unfolding Known
-of-hart o k l h = omega arith
-
-claim : (o : ℕ) → 0x4000 ≤ o → o < 0x4200 → Known (ClaimI ((o - 0x4000) / 32))
-unfolding Known
-claim o l h = omega arith
-
 -- a choice of which each way is known under its test
 by-test : (b : Bool) (x y : Register) → (b ≡ true → Known x) → (b ≡ false → Known y) → Known (pick b x y)
 by-test true x y f g = f refl
@@ -69,13 +61,9 @@ known-enable : (o : ℕ) → Known (enableRegister o)
 unfolding enableRegister
 known-enable o = search (bits-or, nothing) depth 8
 
-known-hart : (o : ℕ) → 0x4000 ≤ o → o < 0x4200 → Known (hartRegister o)
-unfolding hartRegister
-known-hart o l h = search (by-test, of-hart, claim, nothing) depth 8
-
 known : (o : ℕ) → Known (registerOf o)
 unfolding registerOf
-known o = search (by-test, bits-or, domain, nothing, known-pending, known-enable, known-hart, source, target, eqb-true, eqb-false, ltb-true, ltb-false) depth 14
+known o = search (by-test, bits-or, domain, nothing, known-pending, known-enable, source, target, eqb-true, eqb-false, ltb-true, ltb-false) depth 12
 
 module _ (o n : ℕ) (g : Register) (p : g ≡ registerOf o) where
   source-known : g ≡ SourceCfg n → Inside n
@@ -98,12 +86,39 @@ module _ (o n : ℕ) (g : Register) (p : g ≡ registerOf o) where
   pub target-below : g ≡ Target n → n < 64
   target-below q = target-known q .1
 
+-- ---- harts
+Held : Idc → Type 0
+Held (OfHart h k) = h < 16
+Held (ClaimI h) = h < 16
+Held Reserved = Unit {0}
+
+of-hart : (o : ℕ) (k : HartRegister) → 0x4000 ≤ o → o < 0x4200 → Held (OfHart ((o - 0x4000) / 32) k)
+unfolding Held
+of-hart o k l h = omega arith
+
+claim : (o : ℕ) → 0x4000 ≤ o → o < 0x4200 → Held (ClaimI ((o - 0x4000) / 32))
+unfolding Held
+claim o l h = omega arith
+
+reserved : Held Reserved
+unfolding Held
+reserved = tt
+
+by-place : (b : Bool) (x y : Idc) → (b ≡ true → Held x) → (b ≡ false → Held y) → Held (pick b x y)
+by-place true x y f g = f refl
+by-place false x y f g = g refl
+
+held : (o : ℕ) → Held (idcOf o)
+unfolding idcOf
+held o = search (by-place, of-hart, claim, reserved, ltb-true, ltb-false) depth 12
+
+module _ (o n : ℕ) (g : Idc) (p : g ≡ idcOf o) where
   pub hart-below : (k : HartRegister) → g ≡ OfHart n k → n < 16
-  unfolding Known
-  hart-below k q = subst Known (sym p ∙ q) (known o)
+  unfolding Held
+  hart-below k q = subst Held (sym p ∙ q) (held o)
 
   pub claim-below : g ≡ ClaimI n → n < 16
-  unfolding Known
-  claim-below q = subst Known (sym p ∙ q) (known o)
+  unfolding Held
+  claim-below q = subst Held (sym p ∙ q) (held o)
 
 pub ruleset knowing = (source-above, source-below, target-above, target-below, hart-below, claim-below)

@@ -7,8 +7,10 @@ use Rattle.register.specs.declared.BitRegister.{BitRegister}
 use Rattle.register.specs.declared.BitRegister.the-variants.{SetIp, SetIpNum, InClrIp, ClrIpNum, SetIe, SetIeNum, ClrIe, ClrIeNum}
 use Rattle.register.specs.declared.HartRegister.{HartRegister}
 use Rattle.register.specs.declared.HartRegister.the-variants.{IDelivery, IForce, IThreshold, TopI}
+use Rattle.register.specs.declared.Idc.{Idc}
+use Rattle.register.specs.declared.Idc.the-variants.{OfHart, ClaimI, Reserved}
 use Rattle.register.specs.declared.Register.{Register}
-use Rattle.register.specs.declared.Register.the-variants.{DomainCfg, SourceCfg, OfBits, Target, OfHart, ClaimI, Nothing}
+use Rattle.register.specs.declared.Register.the-variants.{DomainCfg, SourceCfg, OfBits, Target, Nothing}
 
 -- 0x1C00 to 0x1DDC: the pending bits
 unfoldable pub pendingRegister : ℕ → Register
@@ -30,18 +32,9 @@ enableRegister o =
     (pick (eqb o 0x1f04) (OfBits (ClrIe true))
     (pick (eqb o 0x1fdc) (OfBits ClrIeNum) Nothing)))))
 
--- from 0x4000 on: "IDC structures are packed contiguously, 32 bytes per structure", the first one hart 0's
-unfoldable pub hartRegister : ℕ → Register
-hartRegister o =
-    pick (eqb (o % 32) 0x00) (OfHart ((o - 0x4000) / 32) IDelivery)
-    (pick (eqb (o % 32) 0x04) (OfHart ((o - 0x4000) / 32) IForce)
-    (pick (eqb (o % 32) 0x08) (OfHart ((o - 0x4000) / 32) IThreshold)
-    (pick (eqb (o % 32) 0x18) (OfHart ((o - 0x4000) / 32) TopI)
-    (pick (eqb (o % 32) 0x1c) (ClaimI ((o - 0x4000) / 32)) Nothing))))
-
 -- "Undefined offsets, genmsi and setipnum_be read zero and ignore writes" (02): Nothing is at 0x2004 and 0x3000. Sources from 64 on "appear .. as being
 -- not implemented", the registers of message addresses are for machine-level domains only, setipnum_le (0x2000) "acts identically to setipnum", and only
--- "naturally aligned" accesses count. The harts are "0 to 15" (02): for a structure of no hart "these registers may optionally be all read-only zeros" (4.1.8.1)
+-- "naturally aligned" accesses count
 unfoldable pub registerOf : ℕ → Register
 registerOf o =
     pick (eqb (o % 4) 0)
@@ -52,7 +45,18 @@ registerOf o =
     (pick (eqb o 0x2000) (OfBits SetIpNum)
     (pick (ltb o 0x3004) Nothing
     (pick (ltb o 0x3100) (Target ((o - 0x3000) / 4))
-    (pick (ltb o 0x4000) Nothing
-    (pick (ltb o 0x4200) (hartRegister o)
-    Nothing)))))))))
+    Nothing)))))))
     Nothing
+
+-- "IDC structures are packed contiguously, 32 bytes per structure", from 0x4000 on, the first one hart 0's. The harts are "0 to 15" (02); for a structure of no hart
+-- "these registers may optionally be all read-only zeros" (4.1.8.1), and "all other bytes .. are implemented as read-only zeros"
+unfoldable pub idcOf : ℕ → Idc
+idcOf o =
+    pick (ltb o 0x4000) Reserved
+    (pick (ltb o 0x4200)
+    (pick (eqb (o % 32) 0x00) (OfHart ((o - 0x4000) / 32) IDelivery)
+    (pick (eqb (o % 32) 0x04) (OfHart ((o - 0x4000) / 32) IForce)
+    (pick (eqb (o % 32) 0x08) (OfHart ((o - 0x4000) / 32) IThreshold)
+    (pick (eqb (o % 32) 0x18) (OfHart ((o - 0x4000) / 32) TopI)
+    (pick (eqb (o % 32) 0x1c) (ClaimI ((o - 0x4000) / 32)) Reserved)))))
+    Reserved)

@@ -1,7 +1,6 @@
 // The registers of a domain's control region.
 ghost use mathlib.Core.Path.{_≡_};
-ghost use Prim.Native.Nat.{_≤_};
-ghost use Rattle.register.specs.Register.{pendingRegister, enableRegister, hartRegister, registerOf};
+ghost use Rattle.register.specs.Register.{pendingRegister, enableRegister, registerOf, idcOf};
 
 // The registers of pending and enable bits. A `bool` says which of an array's two registers it is: true for sources 32 to 63.
 pub enum BitRegister {
@@ -15,6 +14,14 @@ pub enum BitRegister {
     ClrIeNum,
 }
 
+pub enum Register {
+    DomainCfg,
+    SourceCfg(u64),
+    OfBits(BitRegister),
+    Target(u64),
+    Nothing,
+}
+
 // The registers of a hart but claimi, which is the one that changes by being read.
 pub enum HartRegister {
     IDelivery,
@@ -23,14 +30,11 @@ pub enum HartRegister {
     TopI,
 }
 
-pub enum Register {
-    DomainCfg,
-    SourceCfg(u64),
-    OfBits(BitRegister),
-    Target(u64),
+// What is in the array of interrupt delivery control structures: a hart's number, and its register.
+pub enum Idc {
     OfHart(u64, HartRegister),
     ClaimI(u64),
-    Nothing,
+    Reserved,
 }
 
 fn pending_register(offset: u64) -> Register
@@ -81,30 +85,6 @@ fn enable_register(offset: u64) -> Register
     Register::Nothing
 }
 
-fn hart_register(offset: u64) -> Register
-    requires { ⌜ 0x4000 ≤ offset ⌝ }
-    ensures { λ r. ⌜ r ≡ hartRegister offset ⌝ }
-{
-    let hart = (offset - 0x4000) / 32;
-    let k = offset % 32;
-    if k == 0x00 {
-        return Register::OfHart(hart, HartRegister::IDelivery);
-    }
-    if k == 0x04 {
-        return Register::OfHart(hart, HartRegister::IForce);
-    }
-    if k == 0x08 {
-        return Register::OfHart(hart, HartRegister::IThreshold);
-    }
-    if k == 0x18 {
-        return Register::OfHart(hart, HartRegister::TopI);
-    }
-    if k == 0x1c {
-        return Register::ClaimI(hart);
-    }
-    Register::Nothing
-}
-
 // The register at an offset; Nothing reads zero and ignores writes.
 pub fn register_at(offset: u64) -> Register
     ensures { λ r. ⌜ r ≡ registerOf offset ⌝ }
@@ -133,11 +113,35 @@ pub fn register_at(offset: u64) -> Register
     if offset < 0x3100 {
         return Register::Target((offset - 0x3000) / 4);
     }
-    if offset < 0x4000 {
-        return Register::Nothing;
-    }
-    if offset < 0x4200 {
-        return hart_register(offset);
-    }
     Register::Nothing
+}
+
+// The register of a hart at an offset.
+pub fn idc_at(offset: u64) -> Idc
+    ensures { λ r. ⌜ r ≡ idcOf offset ⌝ }
+{
+    if offset < 0x4000 {
+        return Idc::Reserved;
+    }
+    if offset >= 0x4200 {
+        return Idc::Reserved;
+    }
+    let hart = (offset - 0x4000) / 32;
+    let k = offset % 32;
+    if k == 0x00 {
+        return Idc::OfHart(hart, HartRegister::IDelivery);
+    }
+    if k == 0x04 {
+        return Idc::OfHart(hart, HartRegister::IForce);
+    }
+    if k == 0x08 {
+        return Idc::OfHart(hart, HartRegister::IThreshold);
+    }
+    if k == 0x18 {
+        return Idc::OfHart(hart, HartRegister::TopI);
+    }
+    if k == 0x1c {
+        return Idc::ClaimI(hart);
+    }
+    Idc::Reserved
 }
