@@ -5,22 +5,24 @@ use mathlib.Core.List.{List, [], _∷_}
 use Prim.Native.Nat.{ℕ, zero, suc, _+_, _*_, _/_, _%_, _<_, _≤_}
 use native.Mathlib.Nat.{mod-eq-of-lt}
 use native.Mathlib.Omega.{arith}
-use borrow.Author.Tests.{eqb-true, eqb-false, lt-ltb, ltb-true}
+use borrow.Author.Tests.{eqb-true, eqb-false, lt-ltb, le-ltb, ltb-true}
 use lib.Bits.{bitAnd}
 use lib.Dec.{eqb, ltb}
 use lib.ListN.{getD, set, length, drop, replicate, length-set, length-replicate}
 use lib.Seq.{getD-set-same, getD-set-other}
 use Rattle.memory.specs.Bits.{bits}
 use Rattle.memory.specs.Choice.{pick}
-use Rattle.memory.proofs.Choices.{pick-same, yes-is}
+use Rattle.memory.proofs.Choices.{pick-same, yes-is, no-is}
 use Rattle.word.specs.Word.{marks, inside, only, digit, lowest, putOf}
 use Rattle.word.proofs.Bits.{never, and-true, within, zero-digit}
 use Rattle.register.specs.declared.BitRegister.{BitRegister}
 use Rattle.register.specs.declared.HartRegister.{HartRegister}
 use Rattle.register.specs.declared.HartRegister.the-variants.{IDelivery, IForce, IThreshold, TopI}
 use Rattle.register.specs.declared.Register.{Register}
-use Rattle.register.specs.declared.Register.the-variants.{DomainCfg, SourceCfg, OfBits, Target, OfHart, ClaimI, Nothing}
-use Rattle.register.specs.Register.{registerOf}
+use Rattle.register.specs.declared.Register.the-variants.{DomainCfg, SourceCfg, OfBits, Target, Nothing}
+use Rattle.register.specs.declared.Idc.{Idc}
+use Rattle.register.specs.declared.Idc.the-variants.{OfHart, ClaimI, Reserved}
+use Rattle.register.specs.Register.{registerOf, idcOf}
 use Rattle.register.proofs.Known.{source-above, source-below, target-above, target-below}
 use Rattle.hart.specs.declared.Hart.{Hart}
 use Rattle.hart.specs.Hart.{resting, wroteOf, unforced, topWord}
@@ -36,10 +38,10 @@ use Rattle.sources.specs.Sources.{sourceOf, Common, tableWith, Acts, lined, fir
 use Rattle.aplic.specs.declared.Msi.{Msi}
 use Rattle.aplic.specs.declared.Sent.{Sent}
 use Rattle.aplic.specs.declared.Sent.the-variants.{Idle, Forwarded}
-use Rattle.aplic.specs.Direct.{reaches, withHart, topAt, topi, claimTable, claimHart, claimed, claimValue, writeHart, readHart, signalled}
-use Rattle.aplic.specs.Calls.{wireTable, concerned, change, enabledBy, ignores, writeRegister, writeTable, readBits, readRegister, readTable, claimedBy, claims, afterRead, domainWord, forwardTable, sends, sentOf, msiOf}
+use Rattle.aplic.specs.Direct.{reaches, withHart, topAt, topi, claimTable, claimHart, claimed, claimValue, writeHart, readHart, writeIdc, ignoresIdc, readIdc, claimedBy, claims, signalled}
+use Rattle.aplic.specs.Calls.{wireTable, concerned, change, enabledBy, writeRegister, ignoresRegister, ignores, readBits, readRegister, domainWord, forwardTable, sends, sentOf, msiOf}
 use Rattle.aplic.specs.Domain.{Shows}
-use Rattle.aplic.proofs.Tables.{same-table, acts-ext, handed-is, acts-table, row-at, configured-table, aimed-table, wired-table, written, told, stays, none-sent, none-waits, kept-table, kept-sent, forwarded-table, forwarded-sent}
+use Rattle.aplic.proofs.Tables.{same-table, acts-ext, handed-is, acts-table, row-at, configured-table, aimed-table, wired-table, written, told, idc-written, idc-told, idc-left, none-sent, none-waits, kept-table, kept-sent, forwarded-table, forwarded-sent}
 use Rattle.aplic.proofs.Tops.{Looked, looked-first, looked-next, looked-less, looked-done}
 use Rattle.aplic.proofs.Claims.{with-own, reach-yes, reach-mode, unreached-claim, unreached-value, unreached-write, unreached-read, unreached-signal}
 use Rattle.aplic.proofs.Claims.{top-reached, nothing-table, nothing-hart, taken-hart, taken-table, claimed-by, wrote-is, tells-delivery, tells-force, tells-threshold, tells-top, table-forced, table-top, table-off}
@@ -288,17 +290,17 @@ module _ (ws : List ℕ) (long : 87 ≤ length ws) (s : Sources) (hs : s ≡ sou
 
   -- a write to a register of bits
   pub write-bits : (d : Delivery) (o v : ℕ) (g : Register) (b : BitRegister) (r : Sources) (out : List ℕ) → d ≡ deliveryIn ws → g ≡ registerOf o → g ≡ OfBits b → Acts (concerned b v) (change d b) s r → out ≡ withSources ws r
-      → tableIn out ≡ writeTable o v (tableIn ws)
+      → tableIn out ≡ writeRegister (registerOf o) v (tableIn ws)
   unfolding writeRegister tableWith tableIn
   write-bits d o v g b r out hd p q a e =
       written o v g p (OfBits b) (tableIn ws) (tableIn out) q (put-all (change (deliveryIn ws) b) (concerned b v) r out (subst (λ (m : Delivery). Acts (concerned b v) (change m b) s r) hd a) e)
 
   -- a read of a register of bits
-  pub read-bits : (o x : ℕ) (g : Register) (b : BitRegister) → g ≡ registerOf o → g ≡ OfBits b → Shows b s x → x ≡ readTable o (tableIn ws)
+  pub read-bits : (o x : ℕ) (g : Register) (b : BitRegister) → g ≡ registerOf o → g ≡ OfBits b → Shows b s x → x ≡ readRegister (registerOf o) (tableIn ws)
   unfolding readRegister tableIn Shows
   read-bits o x g b p q h = told o x g p (OfBits b) (tableIn ws) q (h (commonIn ws) (targetIn ws) ∙ ap (λ (z : Sources). readBits b (tableWith (commonIn ws) z (targetIn ws))) hs)
 
-  pub read-source : (o x n : ℕ) (g : Register) → g ≡ registerOf o → g ≡ SourceCfg n → x ≡ numberOf (sourceOf s n 0 .mode) → x ≡ readTable o (tableIn ws)
+  pub read-source : (o x n : ℕ) (g : Register) → g ≡ registerOf o → g ≡ SourceCfg n → x ≡ numberOf (sourceOf s n 0 .mode) → x ≡ readRegister (registerOf o) (tableIn ws)
   unfolding readRegister tableIn sourceOf
   read-source o x n g p q e =
       told o x g p (SourceCfg n) (tableIn ws) q
@@ -349,49 +351,33 @@ beyond-both ws mid out s n t l p e = beyond-target mid out n t l e ∙ beyond-pu
 
 -- ---- the other arms of a write and of a read
 module _ (ws : List ℕ) (o v : ℕ) (g : Register) (p : g ≡ registerOf o) where
-  pub write-nothing : g ≡ Nothing → tableIn ws ≡ writeTable o v (tableIn ws)
+  pub write-nothing : g ≡ Nothing → tableIn ws ≡ writeRegister (registerOf o) v (tableIn ws)
   unfolding writeRegister
   write-nothing q = written o v g p Nothing (tableIn ws) _ q refl
 
-  pub write-source : (n : ℕ) (out : List ℕ) → g ≡ SourceCfg n → tableIn out ≡ act (only n) (configured (deliveryIn ws) v) (tableIn ws) → tableIn out ≡ writeTable o v (tableIn ws)
+  pub write-source : (n : ℕ) (out : List ℕ) → g ≡ SourceCfg n → tableIn out ≡ act (only n) (configured (deliveryIn ws) v) (tableIn ws) → tableIn out ≡ writeRegister (registerOf o) v (tableIn ws)
   unfolding writeRegister tableIn tableWith
   write-source n out q e = written o v g p (SourceCfg n) (tableIn ws) _ q e
 
-  pub write-target : (n : ℕ) (out : List ℕ) → g ≡ Target n → tableIn out ≡ act (only n) (aimed (deliveryIn ws) v) (tableIn ws) → tableIn out ≡ writeTable o v (tableIn ws)
+  pub write-target : (n : ℕ) (out : List ℕ) → g ≡ Target n → tableIn out ≡ act (only n) (aimed (deliveryIn ws) v) (tableIn ws) → tableIn out ≡ writeRegister (registerOf o) v (tableIn ws)
   unfolding writeRegister tableIn tableWith
   write-target n out q e = written o v g p (Target n) (tableIn ws) _ q e
 
-  pub read-nothing : g ≡ Nothing → v ≡ 0 → v ≡ readTable o (tableIn ws)
+  pub read-nothing : g ≡ Nothing → v ≡ 0 → v ≡ readRegister (registerOf o) (tableIn ws)
   unfolding readRegister
   read-nothing q e = told o v g p Nothing (tableIn ws) q e
 
-  pub read-domain : (ie : Bool) (d : Delivery) → g ≡ DomainCfg → ie ≡ enableIn ws → d ≡ deliveryIn ws → v ≡ domainWord ie d → v ≡ readTable o (tableIn ws)
+  pub read-domain : (ie : Bool) (d : Delivery) → g ≡ DomainCfg → ie ≡ enableIn ws → d ≡ deliveryIn ws → v ≡ domainWord ie d → v ≡ readRegister (registerOf o) (tableIn ws)
   unfolding readRegister tableIn tableWith
   read-domain ie d q hi hd e = told o v g p DomainCfg (tableIn ws) q (e ∙ ap₂ (λ (b : Bool) (m : Delivery). domainWord b m) hi hd)
 
-  pub write-hart : (h : ℕ) (k : HartRegister) (out : List ℕ) → g ≡ OfHart h k → tableIn out ≡ writeHart h k v (tableIn ws) → tableIn out ≡ writeTable o v (tableIn ws)
-  unfolding writeRegister
-  write-hart h k out q e = written o v g p (OfHart h k) (tableIn ws) _ q e
-
-  pub write-claim : (h : ℕ) → g ≡ ClaimI h → tableIn ws ≡ writeTable o v (tableIn ws)
-  unfolding writeRegister
-  write-claim h q = written o v g p (ClaimI h) (tableIn ws) _ q refl
-
-  pub read-hart : (h : ℕ) (k : HartRegister) → g ≡ OfHart h k → v ≡ readHart h k (tableIn ws) → v ≡ readTable o (tableIn ws)
-  unfolding readRegister
-  read-hart h k q e = told o v g p (OfHart h k) (tableIn ws) q e
-
-  pub read-claim : (h : ℕ) → g ≡ ClaimI h → v ≡ claimValue h (tableIn ws) → v ≡ readTable o (tableIn ws)
-  unfolding readRegister
-  read-claim h q e = told o v g p (ClaimI h) (tableIn ws) q e
-
-  pub read-target : (n : ℕ) → g ≡ Target n → v ≡ targetIn ws n → v ≡ readTable o (tableIn ws)
+  pub read-target : (n : ℕ) → g ≡ Target n → v ≡ targetIn ws n → v ≡ readRegister (registerOf o) (tableIn ws)
   unfolding readRegister tableIn sourceOf
   read-target n q e =
       told o v g p (Target n) (tableIn ws) q
       (e ∙ ap (λ (y : Source). y .target) (row-at (commonIn ws) (sourcesIn ws) (sourcesIn ws) (targetIn ws) n (target-above o n g p q) (target-below o n g p q)))
 
-pub write-domain : (ws : List ℕ) (o v : ℕ) (g : Register) → 87 ≤ length ws → g ≡ registerOf o → g ≡ DomainCfg → tableIn (set ws 0 (v / 256 % 2)) ≡ writeTable o v (tableIn ws)
+pub write-domain : (ws : List ℕ) (o v : ℕ) (g : Register) → 87 ≤ length ws → g ≡ registerOf o → g ≡ DomainCfg → tableIn (set ws 0 (v / 256 % 2)) ≡ writeRegister (registerOf o) v (tableIn ws)
 unfolding writeRegister enabledBy tableIn tableWith enableIn sourcesIn targetIn deliveryIn
 write-domain [] o v g l p q = absurd (omega arith)
 write-domain (w ∷ ws) o v g l p q =
@@ -411,73 +397,95 @@ pub beyond-domain : (ws : List ℕ) (v : ℕ) → drop 87 (set ws 0 v) ≡ drop 
 beyond-domain ws v = drop-set 87 0 v ws (omega arith)
 
 -- ---- what is ignored changes no word
-module _ (ws : List ℕ) (o : ℕ) (g : Register) (p : g ≡ registerOf o) (xs ys : List ℕ) where
-  ignored-by : (h : Register) → g ≡ h → ignores (deliveryIn ws) h ≡ false → ignores (deliveryIn ws) (registerOf o) ≡ true → xs ≡ ys
-  ignored-by h q n e = absurd (never (sym n ∙ ap (ignores (deliveryIn ws)) (sym q ∙ p) ∙ e))
+module _ (o : ℕ) (g : Register) (p : g ≡ registerOf o) (xs ys : List ℕ) where
+  ignored-by : (h : Register) → g ≡ h → ignoresRegister h ≡ false → ignoresRegister (registerOf o) ≡ true → xs ≡ ys
+  ignored-by h q n e = absurd (never (sym n ∙ ap ignoresRegister (sym q ∙ p) ∙ e))
 
-  pub changed-domain : g ≡ DomainCfg → ignores (deliveryIn ws) (registerOf o) ≡ true → xs ≡ ys
-  unfolding ignores
+  pub changed-domain : g ≡ DomainCfg → ignoresRegister (registerOf o) ≡ true → xs ≡ ys
+  unfolding ignoresRegister
   changed-domain q = ignored-by DomainCfg q refl
 
-  pub changed-source : (n : ℕ) → g ≡ SourceCfg n → ignores (deliveryIn ws) (registerOf o) ≡ true → xs ≡ ys
-  unfolding ignores
+  pub changed-source : (n : ℕ) → g ≡ SourceCfg n → ignoresRegister (registerOf o) ≡ true → xs ≡ ys
+  unfolding ignoresRegister
   changed-source n q = ignored-by (SourceCfg n) q refl
 
-  pub changed-bits : (b : BitRegister) → g ≡ OfBits b → ignores (deliveryIn ws) (registerOf o) ≡ true → xs ≡ ys
-  unfolding ignores
+  pub changed-bits : (b : BitRegister) → g ≡ OfBits b → ignoresRegister (registerOf o) ≡ true → xs ≡ ys
+  unfolding ignoresRegister
   changed-bits b q = ignored-by (OfBits b) q refl
 
-  pub changed-target : (n : ℕ) → g ≡ Target n → ignores (deliveryIn ws) (registerOf o) ≡ true → xs ≡ ys
-  unfolding ignores
+  pub changed-target : (n : ℕ) → g ≡ Target n → ignoresRegister (registerOf o) ≡ true → xs ≡ ys
+  unfolding ignoresRegister
   changed-target n q = ignored-by (Target n) q refl
 
-  -- a hart's register where the mode is message
-  pub changed-hart : (h : ℕ) (k : HartRegister) → g ≡ OfHart h k → (directOf (deliveryIn ws) ≡ false → xs ≡ ys) → ignores (deliveryIn ws) (registerOf o) ≡ true → xs ≡ ys
+pub ruleset changed = (changed-domain, changed-source, changed-bits, changed-target)
+
+-- ---- the IDC structures
+module _ (ws : List ℕ) (o v : ℕ) (g : Idc) (p : g ≡ idcOf o) where
+  pub write-hart : (h : ℕ) (k : HartRegister) (out : List ℕ) → g ≡ OfHart h k → tableIn out ≡ writeHart h k v (tableIn ws) → tableIn out ≡ writeIdc (idcOf o) v (tableIn ws)
+  unfolding writeIdc
+  write-hart h k out q e = idc-written o v g p (OfHart h k) (tableIn ws) _ q e
+
+  pub write-claim : (h : ℕ) → g ≡ ClaimI h → tableIn ws ≡ writeIdc (idcOf o) v (tableIn ws)
+  unfolding writeIdc
+  write-claim h q = idc-written o v g p (ClaimI h) (tableIn ws) _ q refl
+
+  pub write-reserved : g ≡ Reserved → tableIn ws ≡ writeIdc (idcOf o) v (tableIn ws)
+  unfolding writeIdc
+  write-reserved q = idc-written o v g p Reserved (tableIn ws) _ q refl
+
+  pub read-hart : (h : ℕ) (k : HartRegister) → g ≡ OfHart h k → v ≡ readHart h k (tableIn ws) → v ≡ readIdc (idcOf o) (tableIn ws)
+  unfolding readIdc
+  read-hart h k q e = idc-told o v g p (OfHart h k) (tableIn ws) q e
+
+  pub read-claim : (h : ℕ) → g ≡ ClaimI h → v ≡ claimValue h (tableIn ws) → v ≡ readIdc (idcOf o) (tableIn ws)
+  unfolding readIdc
+  read-claim h q e = idc-told o v g p (ClaimI h) (tableIn ws) q e
+
+  pub read-reserved : g ≡ Reserved → v ≡ 0 → v ≡ readIdc (idcOf o) (tableIn ws)
+  unfolding readIdc
+  read-reserved q e = idc-told o v g p Reserved (tableIn ws) q e
+
+module _ (ws : List ℕ) (o : ℕ) (g : Idc) (p : g ≡ idcOf o) where
+  pub left-hart : (h : ℕ) (k : HartRegister) → g ≡ OfHart h k → tableIn ws ≡ claimedBy (idcOf o) (tableIn ws)
+  unfolding claimedBy
+  left-hart h k q = idc-left o 0 g p (OfHart h k) (tableIn ws) _ q refl
+
+  pub left-claim : (h : ℕ) (out : List ℕ) → g ≡ ClaimI h → tableIn out ≡ claimed h (tableIn ws) → tableIn out ≡ claimedBy (idcOf o) (tableIn ws)
+  unfolding claimedBy
+  left-claim h out q e = idc-left o 0 g p (ClaimI h) (tableIn ws) _ q e
+
+  pub left-reserved : g ≡ Reserved → tableIn ws ≡ claimedBy (idcOf o) (tableIn ws)
+  unfolding claimedBy
+  left-reserved q = idc-left o 0 g p Reserved (tableIn ws) _ q refl
+
+  module _ (xs ys : List ℕ) where
+    -- a hart's register where the mode is message
+    pub changed-hart : (h : ℕ) (k : HartRegister) → g ≡ OfHart h k → (directOf (deliveryIn ws) ≡ false → xs ≡ ys) → ignoresIdc (deliveryIn ws) (idcOf o) ≡ true → xs ≡ ys
+    unfolding ignoresIdc
+    changed-hart h k q f e = f (not-on (directOf (deliveryIn ws)) (ap (ignoresIdc (deliveryIn ws)) (sym q ∙ p) ∙ e))
+
+    -- a claim where it is none
+    pub claimed-else : (h : ℕ) → g ≡ ClaimI h → (directOf (deliveryIn ws) ≡ false → xs ≡ ys) → claims (deliveryIn ws) (idcOf o) ≡ false → xs ≡ ys
+    unfolding claims
+    claimed-else h q f e = f (ap (claims (deliveryIn ws)) (sym q ∙ p) ∙ e)
+
+pub ruleset idc-writes = (write-hart, write-claim, write-reserved, changed-hart)
+
+pub ruleset idc-reads = (read-hart, read-claim, read-reserved)
+
+pub ruleset lefts = (left-hart, left-claim, left-reserved)
+
+-- by the span of the offset
+module _ (d : Delivery) (o : ℕ) (xs ys : List ℕ) where
+  pub low-ignored : o < 0x4000 → (ignoresRegister (registerOf o) ≡ true → xs ≡ ys) → ignores d o ≡ true → xs ≡ ys
   unfolding ignores
-  changed-hart h k q f e = f (off (directOf (deliveryIn ws)) (ap (ignores (deliveryIn ws)) (sym q ∙ p) ∙ e))
-    where
-      off : (b : Bool) → not b ≡ true → b ≡ false
-      off true z = sym z
-      off false z = refl
+  low-ignored l f e = f (yes-is _ _ _ _ (lt-ltb o 0x4000 l) refl ∙ e)
 
-  -- a claim where it is one
-  pub claimed-else : (h : ℕ) → g ≡ ClaimI h → (directOf (deliveryIn ws) ≡ false → xs ≡ ys) → claims (deliveryIn ws) (registerOf o) ≡ false → xs ≡ ys
-  unfolding claims
-  claimed-else h q f e = f (ap (claims (deliveryIn ws)) (sym q ∙ p) ∙ e)
+  pub high-ignored : 0x4000 ≤ o → (ignoresIdc d (idcOf o) ≡ true → xs ≡ ys) → ignores d o ≡ true → xs ≡ ys
+  unfolding ignores
+  high-ignored l f e = f (no-is _ _ _ _ (le-ltb o 0x4000 l) refl ∙ e)
 
-pub ruleset changed = (changed-domain, changed-source, changed-bits, changed-target, changed-hart, claimed-else)
-
--- ---- what a read leaves
-module _ (ws : List ℕ) (o : ℕ) (g : Register) (p : g ≡ registerOf o) where
-  pub left-nothing : g ≡ Nothing → tableIn ws ≡ afterRead o (tableIn ws)
-  unfolding claimedBy
-  left-nothing q = stays o 0 g p Nothing (tableIn ws) _ q refl
-
-  pub left-domain : g ≡ DomainCfg → tableIn ws ≡ afterRead o (tableIn ws)
-  unfolding claimedBy
-  left-domain q = stays o 0 g p DomainCfg (tableIn ws) _ q refl
-
-  pub left-bits : (b : BitRegister) → g ≡ OfBits b → tableIn ws ≡ afterRead o (tableIn ws)
-  unfolding claimedBy
-  left-bits b q = stays o 0 g p (OfBits b) (tableIn ws) _ q refl
-
-  pub left-source : (n : ℕ) → g ≡ SourceCfg n → tableIn ws ≡ afterRead o (tableIn ws)
-  unfolding claimedBy
-  left-source n q = stays o 0 g p (SourceCfg n) (tableIn ws) _ q refl
-
-  pub left-target : (n : ℕ) → g ≡ Target n → tableIn ws ≡ afterRead o (tableIn ws)
-  unfolding claimedBy
-  left-target n q = stays o 0 g p (Target n) (tableIn ws) _ q refl
-
-  pub left-hart : (h : ℕ) (k : HartRegister) → g ≡ OfHart h k → tableIn ws ≡ afterRead o (tableIn ws)
-  unfolding claimedBy
-  left-hart h k q = stays o 0 g p (OfHart h k) (tableIn ws) _ q refl
-
-  pub left-claim : (h : ℕ) (out : List ℕ) → g ≡ ClaimI h → tableIn out ≡ claimed h (tableIn ws) → tableIn out ≡ afterRead o (tableIn ws)
-  unfolding claimedBy
-  left-claim h out q e = stays o 0 g p (ClaimI h) (tableIn ws) _ q e
-
-pub ruleset lefts = (left-nothing, left-domain, left-bits, left-source, left-target, left-hart, left-claim)
+pub ruleset ignoring = (low-ignored, high-ignored)
 
 -- ---- harts
 pub beyond-record : (ws out : List ℕ) (h : ℕ) (x : ℕ) → h < 16 → out ≡ set ws (71 + h) x → drop 87 out ≡ drop 87 ws
@@ -636,9 +644,9 @@ pub ruleset beyond = (beyond-put, beyond-target, beyond-both, beyond-domain, bey
 
 pub ruleset ones = (configure-goes, aim-goes)
 
-pub ruleset writes = (write-nothing, write-domain, write-bits, write-source, write-target, write-hart, write-claim)
+pub ruleset writes = (write-nothing, write-domain, write-bits, write-source, write-target)
 
-pub ruleset reads = (read-nothing, read-domain, read-bits, read-source, read-target, read-hart, read-claim)
+pub ruleset reads = (read-nothing, read-domain, read-bits, read-source, read-target)
 
 pub ruleset forwards = (kept-table, kept-sent, forward-off, forward-none, forward-goes, forward-sends, forward-changes)
 

@@ -4,17 +4,18 @@ ghost use Prim.Native.Nat.{ℕ, _<_, _≤_, _+_};
 ghost use lib.ListN.{length as lengthOf, drop, set};
 ghost use mathlib.Core.Bool.{true, false};
 ghost use Rattle.word.specs.Word.{only};
-ghost use Rattle.register.specs.Register.{registerOf};
+ghost use Rattle.register.specs.Register.{registerOf, idcOf};
 ghost use Rattle.hart.specs.Kept.{keptOf};
 ghost use Rattle.source.specs.Source.{directOf, configured, aimed};
 ghost use Rattle.source.specs.Table.{act};
-ghost use Rattle.aplic.specs.Calls.{wireTable, ignores, writeTable, claims, readTable, afterRead, forwardTable, sentOf};
-ghost use Rattle.aplic.specs.Direct.{topAt, claimed, claimValue, writeHart, readHart, signalled as signalledOf};
+ghost use Rattle.aplic.specs.Calls.{wireTable, writeRegister, writeTable, ignoresRegister, ignores, readRegister, readTable, afterRead, forwardTable, sentOf};
+ghost use Rattle.aplic.specs.Direct.{topAt, claimed, claimValue, writeHart, readHart, writeIdc, ignoresIdc, readIdc, claimedBy, claims, signalled as signalledOf};
 ghost use Rattle.aplic.specs.declared.Sent.the-variants.{Idle};
 ghost use Rattle.aplic_state.specs.State.{enableIn, sourcesIn, deliveryIn, targetIn, recordIn, tableIn, withSources};
 use aplic::Sent;
 use hart::Hart;
 use register::HartRegister;
+use register::Idc;
 use register::Register;
 use source::Delivery;
 use sources::Sources;
@@ -152,12 +153,12 @@ fn write_hart(state: &mut [u64], h: u64, k: HartRegister, v: u32)
     }
 }
 
-// A register is written: any offset, any value.
-pub fn write(state: &mut [u64], offset: u64, v: u32)
+// A register of the first 16 KiB is written.
+fn write_register(state: &mut [u64], offset: u64, v: u32)
     requires { ⌜ 87 ≤ lengthOf (now state) ⌝ }
-    ensures table { λ _. ⌜ tableIn (now (state .exit)) ≡ writeTable offset v (tableIn (now (state .entry))) ⌝ }
+    ensures table { λ _. ⌜ tableIn (now (state .exit)) ≡ writeRegister (registerOf offset) v (tableIn (now (state .entry))) ⌝ }
     ensures beyond { λ _. ⌜ drop 87 (now (state .exit)) ≡ drop 87 (now (state .entry)) ⌝ }
-    ensures ignored { λ _. ⌜ (ignores (deliveryIn (now (state .entry))) (registerOf offset) ≡ true → now (state .exit) ≡ now (state .entry)) ⌝ }
+    ensures ignored { λ _. ⌜ (ignoresRegister (registerOf offset) ≡ true → now (state .exit) ≡ now (state .entry)) ⌝ }
 {
     let g = register::register_at(offset);
     match g {
@@ -175,11 +176,38 @@ pub fn write(state: &mut [u64], offset: u64, v: u32)
         Register::Target(n) => {
             aim(state, n, v);
         }
-        Register::OfHart(h, k) => {
+        Register::Nothing => {}
+    }
+}
+
+// A register of a hart is written.
+fn write_idc(state: &mut [u64], offset: u64, v: u32)
+    requires { ⌜ 87 ≤ lengthOf (now state) ⌝ }
+    ensures table { λ _. ⌜ tableIn (now (state .exit)) ≡ writeIdc (idcOf offset) v (tableIn (now (state .entry))) ⌝ }
+    ensures beyond { λ _. ⌜ drop 87 (now (state .exit)) ≡ drop 87 (now (state .entry)) ⌝ }
+    ensures ignored { λ _. ⌜ (ignoresIdc (deliveryIn (now (state .entry))) (idcOf offset) ≡ true → now (state .exit) ≡ now (state .entry)) ⌝ }
+{
+    let g = register::idc_at(offset);
+    match g {
+        Idc::OfHart(h, k) => {
             write_hart(state, h, k, v);
         }
-        Register::ClaimI(_) => {}
-        Register::Nothing => {}
+        Idc::ClaimI(_) => {}
+        Idc::Reserved => {}
+    }
+}
+
+// A register is written: any offset, any value.
+pub fn write(state: &mut [u64], offset: u64, v: u32)
+    requires { ⌜ 87 ≤ lengthOf (now state) ⌝ }
+    ensures table { λ _. ⌜ tableIn (now (state .exit)) ≡ writeTable offset v (tableIn (now (state .entry))) ⌝ }
+    ensures beyond { λ _. ⌜ drop 87 (now (state .exit)) ≡ drop 87 (now (state .entry)) ⌝ }
+    ensures ignored { λ _. ⌜ (ignores (deliveryIn (now (state .entry))) offset ≡ true → now (state .exit) ≡ now (state .entry)) ⌝ }
+{
+    if offset < 0x4000 {
+        write_register(state, offset, v);
+    } else {
+        write_idc(state, offset, v);
     }
 }
 
@@ -239,13 +267,10 @@ pub fn signal(state: &[u64], h: u64) -> bool
     false
 }
 
-// A register is read: any offset.
-pub fn read(state: &mut [u64], offset: u64) -> u32
+// What a register of the first 16 KiB tells.
+fn value(state: &[u64], offset: u64) -> u32
     requires { ⌜ 87 ≤ lengthOf (now state) ⌝ }
-    ensures value { λ r. ⌜ r ≡ readTable offset (tableIn (now (state .entry))) ⌝ }
-    ensures table { λ _. ⌜ tableIn (now (state .exit)) ≡ afterRead offset (tableIn (now (state .entry))) ⌝ }
-    ensures beyond { λ _. ⌜ drop 87 (now (state .exit)) ≡ drop 87 (now (state .entry)) ⌝ }
-    ensures same { λ _. ⌜ (claims (deliveryIn (now (state .entry))) (registerOf offset) ≡ false → now (state .exit) ≡ now (state .entry)) ⌝ }
+    ensures { λ r. ⌜ r ≡ readRegister (registerOf offset) (tableIn (now (state .entry))) ⌝ }
 {
     let g = register::register_at(offset);
     match g {
@@ -256,10 +281,38 @@ pub fn read(state: &mut [u64], offset: u64) -> u32
         Register::SourceCfg(n) => aplic::mode_number(sources_in(state), n),
         Register::OfBits(b) => aplic::read_bits(sources_in(state), b),
         Register::Target(n) => target_in(state, n),
-        Register::OfHart(h, k) => hart_value(state, h, k),
-        Register::ClaimI(h) => claim(state, h),
         Register::Nothing => 0,
     }
+}
+
+// A register of a hart is read.
+fn read_idc(state: &mut [u64], offset: u64) -> u32
+    requires { ⌜ 87 ≤ lengthOf (now state) ⌝ }
+    ensures value { λ r. ⌜ r ≡ readIdc (idcOf offset) (tableIn (now (state .entry))) ⌝ }
+    ensures table { λ _. ⌜ tableIn (now (state .exit)) ≡ claimedBy (idcOf offset) (tableIn (now (state .entry))) ⌝ }
+    ensures beyond { λ _. ⌜ drop 87 (now (state .exit)) ≡ drop 87 (now (state .entry)) ⌝ }
+    ensures same { λ _. ⌜ (claims (deliveryIn (now (state .entry))) (idcOf offset) ≡ false → now (state .exit) ≡ now (state .entry)) ⌝ }
+{
+    let g = register::idc_at(offset);
+    match g {
+        Idc::OfHart(h, k) => hart_value(state, h, k),
+        Idc::ClaimI(h) => claim(state, h),
+        Idc::Reserved => 0,
+    }
+}
+
+// A register is read: any offset.
+pub fn read(state: &mut [u64], offset: u64) -> u32
+    requires { ⌜ 87 ≤ lengthOf (now state) ⌝ }
+    ensures value { λ r. ⌜ r ≡ readTable offset (tableIn (now (state .entry))) ⌝ }
+    ensures table { λ _. ⌜ tableIn (now (state .exit)) ≡ afterRead offset (tableIn (now (state .entry))) ⌝ }
+    ensures beyond { λ _. ⌜ drop 87 (now (state .exit)) ≡ drop 87 (now (state .entry)) ⌝ }
+    ensures same { λ _. ⌜ (claims (deliveryIn (now (state .entry))) (idcOf offset) ≡ false → now (state .exit) ≡ now (state .entry)) ⌝ }
+{
+    if offset < 0x4000 {
+        return value(state, offset);
+    }
+    read_idc(state, offset)
 }
 
 // The lowest-numbered source that is pending and enabled is handed out, in message delivery, while the domain's enable is set.

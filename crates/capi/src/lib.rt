@@ -14,11 +14,11 @@ ghost use Rattle.capi.specs.Face.{stageOf, withAnswer, withPairs, withRe
 ghost use Rattle.capi.specs.Words.{spanOf, wordIn, pairIn, onesIn};
 ghost use Rattle.iommu.specs.Bounds.{Reportable};
 ghost use Rattle.iommu.specs.Files.{takeOf, afterTakeOf, reportOf};
-ghost use Rattle.register.specs.Register.{registerOf};
+ghost use Rattle.register.specs.Register.{idcOf};
 ghost use Rattle.word.specs.Word.{digit};
 ghost use Rattle.hart.specs.Hart.{hartRefusal};
-ghost use Rattle.aplic.specs.Direct.{claimed, claimValue, signalled};
-ghost use Rattle.aplic.specs.Calls.{wireTable, wireRefusal, ignores, writeTable, claims, readTable, afterRead, forwardTable, sentOf};
+ghost use Rattle.aplic.specs.Direct.{claimed, claimValue, claims, signalled};
+ghost use Rattle.aplic.specs.Calls.{wireTable, wireRefusal, writeTable, ignores, readTable, afterRead, forwardTable, sentOf};
 ghost use Rattle.aplic.specs.declared.Sent.the-variants.{Idle};
 ghost use Rattle.aplic_state.specs.State.{deliveryIn, tableIn};
 ghost use Rattle.capi.specs.Wired.{domainStatus, roomStatus, underStatus, withSent};
@@ -280,7 +280,7 @@ pub extern "C" fn yasmurekh_aplic_write(state: &mut [u64], offset: u64, value: u
     ensures table { λ r. ⌜ tableIn (now (state .exit)) ≡ underStatus r (tableIn (now (state .entry))) (writeTable offset value (tableIn (now (state .entry)))) ⌝ }
     ensures beyond { λ _. ⌜ drop 87 (now (state .exit)) ≡ drop 87 (now (state .entry)) ⌝ }
     ensures refused { λ r. ⌜ ((r ≡ 0 → ⊥) → now (state .exit) ≡ now (state .entry)) ⌝ }
-    ensures ignored { λ _. ⌜ (ignores (deliveryIn (now (state .entry))) (registerOf offset) ≡ true → now (state .exit) ≡ now (state .entry)) ⌝ }
+    ensures ignored { λ _. ⌜ (ignores (deliveryIn (now (state .entry))) offset ≡ true → now (state .exit) ≡ now (state .entry)) ⌝ }
 {
     if state.len() < 87 {
         return 1;
@@ -297,7 +297,7 @@ pub extern "C" fn yasmurekh_aplic_read(state: &mut [u64], offset: u64, out: &mut
     ensures table { λ r. ⌜ tableIn (now (state .exit)) ≡ underStatus r (tableIn (now (state .entry))) (afterRead offset (tableIn (now (state .entry)))) ⌝ }
     ensures beyond { λ _. ⌜ drop 87 (now (state .exit)) ≡ drop 87 (now (state .entry)) ⌝ }
     ensures refused { λ r. ⌜ ((r ≡ 0 → ⊥) → now (state .exit) ≡ now (state .entry)) ⌝ }
-    ensures same { λ _. ⌜ (claims (deliveryIn (now (state .entry))) (registerOf offset) ≡ false → now (state .exit) ≡ now (state .entry)) ⌝ }
+    ensures same { λ _. ⌜ (claims (deliveryIn (now (state .entry))) (idcOf offset) ≡ false → now (state .exit) ≡ now (state .entry)) ⌝ }
 {
     if state.len() < 87 {
         return 1;

@@ -1,163 +1,44 @@
-use Rattle.aplic_state.proofs.States.{writes, beyond, changed}
-use Rattle.register.proofs.Known.{knowing}
+use Rattle.aplic.proofs.Tables.{spans}
+use Rattle.aplic_state.proofs.States.{ignoring}
 use borrow.Author.Needs.{needs}
 use Rattle.aplic_state.proofs.write.Statement.{statement}
 use Rattle.aplic_state.proofs.write.Tie as tie
 use Rattle.aplic_state.proofs.write.Reads as reads
 use Rattle.aplic_state.proofs.write.Lts as lts
-use Rattle.aplic.proofs.write_bits.Reads as write-bits-reads
-use Rattle.aplic_state.proofs.aim.Reads as aim-reads
-use Rattle.aplic_state.proofs.configure.Reads as configure-reads
-use Rattle.aplic_state.proofs.delivery_in.Reads as delivery-in-reads
-use Rattle.aplic_state.proofs.put_sources.Reads as put-sources-reads
-use Rattle.aplic_state.proofs.sources_in.Reads as sources-in-reads
-use Rattle.aplic_state.proofs.write_hart.Reads as write-hart-reads
-use Rattle.register.proofs.register_at.Reads as register-at-reads
+use Rattle.aplic_state.proofs.write_idc.Reads as write-idc-reads
+use Rattle.aplic_state.proofs.write_register.Reads as write-register-reads
 
--- src/lib.rt:162:9
-register-at-requires : tie.Need-register-at-requires
-register-at-requires c κs = search needs
+-- src/lib.rt:208:9
+write-register-requires : tie.Need-write-register-requires
+write-register-requires c κs = search needs
 
--- src/lib.rt:165:25
-enum-told : tie.Need-enum-told
-enum-told c = search needs
+-- src/lib.rt:210:9
+write-idc-requires : tie.Need-write-idc-requires
+write-idc-requires c κs = search needs
 
--- src/lib.rt:165:24
-cast-state : tie.Need-cast-state
-cast-state c = search needs
-
--- src/lib.rt:165:13
-slice-write-state : tie.Need-slice-write-state
-slice-write-state c = search needs
-
--- src/lib.rt:167:29
-enum-known-g : tie.Need-enum-known-g
-enum-known-g c = search needs
-
--- src/lib.rt:168:13
-configure-requires : tie.Need-configure-requires
-configure-requires c κs = search (writes, beyond, changed, knowing, needs)
-
--- src/lib.rt:170:26
-enum-known-g-2 : tie.Need-enum-known-g-2
-enum-known-g-2 c = search needs
-
--- src/lib.rt:171:17
-delivery-in-requires : tie.Need-delivery-in-requires
-delivery-in-requires c κs = search needs
-
--- src/lib.rt:172:39
-sources-in-requires : tie.Need-sources-in-requires
-sources-in-requires c κs = search needs
-
--- src/lib.rt:172:17
-write-bits-requires : tie.Need-write-bits-requires
-write-bits-requires c κs = search needs
-
--- src/lib.rt:173:13
-put-sources-requires : tie.Need-put-sources-requires
-put-sources-requires c κs = search needs
-
--- src/lib.rt:175:26
-enum-known-g-3 : tie.Need-enum-known-g-3
-enum-known-g-3 c = search needs
-
--- src/lib.rt:176:13
-aim-requires : tie.Need-aim-requires
-aim-requires c κs = search (writes, beyond, changed, knowing, needs)
-
--- src/lib.rt:178:26
-enum-known-g-4 : tie.Need-enum-known-g-4
-enum-known-g-4 c = search needs
-
--- src/lib.rt:179:13
-write-hart-requires : tie.Need-write-hart-requires
-write-hart-requires c κs = search (writes, beyond, changed, knowing, needs)
-
-enum-told-2 : tie.Need-enum-told-2
-enum-told-2 c = search needs
-
-enum-told-3 : tie.Need-enum-told-3
-enum-told-3 c = search needs
-
--- src/lib.rt:156:1
+-- src/lib.rt:201:1
 same-length : tie.Need-same-length
 same-length c = search needs
 
--- src/lib.rt:156:1
+-- src/lib.rt:201:1
 returns : tie.Need-returns
-returns c = search (writes, beyond, changed, knowing, needs)
+returns c = search (spans, ignoring, needs)
 
--- src/lib.rt:156:1
+-- src/lib.rt:201:1
 same-length-2 : tie.Need-same-length-2
 same-length-2 c = search needs
 
--- src/lib.rt:156:1
+-- src/lib.rt:201:1
 returns-2 : tie.Need-returns-2
-returns-2 c = search (writes, beyond, changed, knowing, needs)
-
--- src/lib.rt:156:1
-same-length-3 : tie.Need-same-length-3
-same-length-3 c = search needs
-
--- src/lib.rt:156:1
-returns-3 : tie.Need-returns-3
-returns-3 c = search (writes, beyond, changed, knowing, needs)
-
--- src/lib.rt:156:1
-same-length-4 : tie.Need-same-length-4
-same-length-4 c = search needs
-
--- src/lib.rt:156:1
-returns-4 : tie.Need-returns-4
-returns-4 c = search (writes, beyond, changed, knowing, needs)
-
--- src/lib.rt:156:1
-same-length-5 : tie.Need-same-length-5
-same-length-5 c = search needs
-
--- src/lib.rt:156:1
-returns-5 : tie.Need-returns-5
-returns-5 c = search (writes, beyond, changed, knowing, needs)
-
--- src/lib.rt:156:1
-returns-6 : tie.Need-returns-6
-returns-6 c = search (writes, beyond, changed, knowing, needs)
-
--- src/lib.rt:156:1
-returns-7 : tie.Need-returns-7
-returns-7 c = search (writes, beyond, changed, knowing, needs)
+returns-2 c = search (spans, ignoring, needs)
 
 pub write-spec : {M : Type 1} → statement M
 write-spec =
     tie.close
     (tie.spec
-    register-at-requires
-    enum-told
-    cast-state
-    slice-write-state
-    enum-known-g
-    configure-requires
-    enum-known-g-2
-    delivery-in-requires
-    sources-in-requires
-    write-bits-requires
-    put-sources-requires
-    enum-known-g-3
-    aim-requires
-    enum-known-g-4
-    write-hart-requires
-    enum-told-2
-    enum-told-3
+    write-register-requires
+    write-idc-requires
     same-length
     returns
     same-length-2
-    returns-2
-    same-length-3
-    returns-3
-    same-length-4
-    returns-4
-    same-length-5
-    returns-5
-    returns-6
-    returns-7)
+    returns-2)
