@@ -2,7 +2,7 @@
 use mathlib.Core.Path.{_≡_, refl, sym, ap, ap₂, _∙_, fun-ext}
 use mathlib.Core.Bool.{Bool, true, false, not, _&&_, _||_}
 use mathlib.Core.List.{List, map}
-use Prim.Native.Nat.{ℕ, zero, suc, _<_, _≤_, _+_, _*_, _/_, _%_, _^_}
+use Prim.Native.Nat.{ℕ, zero, suc, _<_, _≤_, _+_, _-_, _*_, _/_, _%_, _^_}
 use native.Mathlib.Nat.{div-one}
 use native.Mathlib.Omega.{arith}
 use borrow.Author.Tests.{eqb-true, eqb-false, lt-ltb, le-ltb}
@@ -11,7 +11,7 @@ use lib.Dec.{eqb}
 use lib.ListN.{getD, set, length, length-map, replicate, getD-replicate}
 use lib.Seq.{getD-set-same, getD-set-other}
 use Rattle.memory.specs.Choice.{pick}
-use Rattle.word.specs.Word.{marks, inside, only, digit, lowest, putOf}
+use Rattle.word.specs.Word.{marks, inside, only, digit, lowest}
 use Rattle.word.proofs.Bits.{and-true, within, is-inside, zero-digit}
 use Rattle.register.specs.declared.BitRegister.{BitRegister}
 use Rattle.register.specs.declared.Register.{Register}
@@ -40,7 +40,7 @@ use Rattle.aplic.specs.Calls.{wireTable, wireRefusal, concerned, change,
 use Rattle.aplic.specs.Direct.{reaches, withHart, topAt, topi, claimTable, claimHart, claimed, claimValue, writeHart, readHart, writeIdc, readIdc, claimedBy, signalled, tells}
 use Rattle.aplic.specs.Domain.{commonOf, tableOf, Shows}
 use Rattle.aplic.proofs.Tables.{same-table, acts-ext, handed-is, written, told, idc-written, idc-told, idc-left, acts-table, row-at, configured-table, aimed-table, wired-table, unwired-table, none-sent, none-waits, kept-table, kept-sent, forwarded-table, forwarded-sent}
-use Rattle.aplic.proofs.Tops.{Looked, looked-first, looked-next, looked-less, looked-done}
+use Rattle.aplic.proofs.Tops.{Looked, looked-first, looked-next, looked-some, looked-less, looked-done}
 use Rattle.aplic.proofs.Claims.{reach-yes, reach-mode, reach-refused, below-of, unreached-topi, unreached-table, unreached-hart, unreached-claim, unreached-value, unreached-write, unreached-read, unreached-signal}
 use Rattle.aplic.proofs.Claims.{top-reached, nothing-topi, nothing-table, nothing-hart, taken-hart, taken-table, claimed-by, claim-small, wrote-is, tells-delivery, tells-force, tells-threshold, tells-top, table-forced, table-top, table-off}
 
@@ -274,16 +274,19 @@ module _ (d : Domain) where
   enable-there = refl
 
   -- the loop
-  pub top-first : (h th best i : ℕ) → best ≡ limitOf th → i ≡ lowest 63 1 (marks (bitAnd (d .sources .pending) (d .sources .enable)))
-      → Looked (commonOf d) (d .sources) (aims (d .targets)) h th (bitAnd (d .sources .pending) (d .sources .enable)) best i
-  top-first h th best i = looked-first (commonOf d) (d .sources) (aims (d .targets)) h th best i
+  pub top-first : (h th left best i : ℕ) → left ≡ bitAnd (d .sources .pending) (d .sources .enable) / 2 * 2 → best ≡ limitOf th → i ≡ lowest 63 1 (marks left)
+      → Looked (commonOf d) (d .sources) (aims (d .targets)) h th left best i
+  top-first h th left best i e = looked-first (commonOf d) (d .sources) (aims (d .targets)) h th left best i e
 
   module _ (h th left best i : ℕ) (p : Looked (commonOf d) (d .sources) (aims (d .targets)) h th left best i) where
-    pub top-next : (r n left′ : ℕ) → i < 64 → r ≡ betterOf h i (getD (d .targets) i 0) best → left′ ≡ putOf left i false → n ≡ lowest 63 1 (marks left′)
+    pub top-next : (r n left′ : ℕ) → i < 64 → r ≡ betterOf h i (getD (d .targets) i 0) best → left′ ≡ bitAnd left (left - 1) → n ≡ lowest 63 1 (marks left′)
         → Looked (commonOf d) (d .sources) (aims (d .targets)) h th left′ r n
     top-next r n left′ l = looked-next (commonOf d) (d .sources) (aims (d .targets)) h th left best i p l r n left′
 
-    pub top-less : (left′ : ℕ) → i < 64 → left′ ≡ putOf left i false → left′ < left
+    pub top-some : i < 64 → 0 < left
+    top-some l = looked-some (commonOf d) (d .sources) (aims (d .targets)) h th left best i p l
+
+    pub top-less : (left′ : ℕ) → i < 64 → left′ ≡ bitAnd left (left - 1) → left′ < left
     top-less left′ l = looked-less (commonOf d) (d .sources) (aims (d .targets)) h th left best i p l left′
 
     pub top-done : (r : ℕ) → 64 ≤ i → r ≡ topWord best → r ≡ topAt h th (tableOf d)
@@ -436,7 +439,7 @@ not-off false e = sym e
 pub fine : (h r : ℕ) → r ≡ hartRefusal h → r ≡ 0 → 0 ≡ hartRefusal h
 fine h r e z = sym z ∙ e
 
-pub ruleset tops = (top-first, top-next, top-less, top-done)
+pub ruleset tops = (top-first, top-next, top-some, top-less, top-done)
 
 pub ruleset hart-writes = (hart-written, hart-ignored)
 

@@ -1,15 +1,15 @@
 -- The top interrupt of a hart, found by one look at each source that waits, wherever the targets are kept. Assumes nothing.
 use mathlib.Core.Path.{_≡_, refl, sym, ap, _∙_, subst}
 use mathlib.Core.Bool.{Bool, true, false, _&&_, _||_}
-use Prim.Native.Nat.{ℕ, _+_, _*_, _/_, _%_, _<_, _≤_}
+use Prim.Native.Nat.{ℕ, zero, suc, _+_, _-_, _*_, _/_, _%_, _<_, _≤_}
 use native.Mathlib.Nat.{div-one}
 use native.Mathlib.Omega.{arith}
 use borrow.Author.Tests.{eq-eqb, ne-eqb, lt-ltb, eqb-true, eqb-false, ltb-true, ltb-false}
 use lib.Bits.{bitAnd}
 use lib.Dec.{eqb, ltb}
 use Rattle.memory.specs.Choice.{pick}
-use Rattle.word.specs.Word.{marks, inside, lowest, putOf}
-use Rattle.word.proofs.Bits.{never, and-true, within, is-inside, bit-and, bit-put, put-less, lowest-from, lowest-found, lowest-before, lowest-is, lowest-none}
+use Rattle.word.specs.Word.{marks, inside, lowest}
+use Rattle.word.proofs.Bits.{never, and-true, within, is-inside, bit-and, even-up, even-zero, some-bit, clear-lowest, clear-less, lowest-from, lowest-found, lowest-before, lowest-is, lowest-none}
 use Rattle.hart.specs.Hart.{hartIndex, priority, passes, keyOf, keys, topWord}
 use Rattle.hart.specs.Kept.{limitOf, betterOf}
 use Rattle.source.specs.declared.Source.{Source}
@@ -120,16 +120,19 @@ module _ (co : Common) (s : Sources) (targets : ℕ → ℕ) (h th : ℕ) where
     pub found : Found best
     pub low : best ≤ limitOf th
     pub least : (j : ℕ) → 0 < j → j < 64 → marks waits j ≡ true → marks left j ≡ false → hartIndex (targets j) ≡ h → best ≤ keyOf j (targets j)
-    pub part : (j : ℕ) → marks left j ≡ true → marks waits j ≡ true
+    pub part : (j : ℕ) → 0 < j → marks left j ≡ true → marks waits j ≡ true
+    pub even : marks left 0 ≡ false
 
-  pub looked-first : (best i : ℕ) → best ≡ limitOf th → i ≡ lowest 63 1 (marks waits) → Looked waits best i
-  looked-first best i e f =
+  pub looked-first : (left best i : ℕ) → left ≡ waits / 2 * 2 → best ≡ limitOf th → i ≡ lowest 63 1 (marks left) → Looked left best i
+  looked-first left best i q e f =
+      let same : (j : ℕ) → 0 < j → marks left j ≡ marks waits j = λ j a. ap (λ (x : ℕ). marks x j) q ∙ even-up waits j a in
       record {
         next = f;
         found = none e;
         low = omega (arith, e);
-        least = λ j a b w l m. absurd (never (sym l ∙ w));
-        part = λ j e. e;
+        least = λ j a b w l m. absurd (never (sym l ∙ same j a ∙ w));
+        part = λ j a e. sym (same j a) ∙ e;
+        even = ap (λ (x : ℕ). marks x 0) q ∙ even-zero waits;
       }
 
   module _ (left best i : ℕ) (p : Looked left best i) (l : i < 64) where
@@ -139,68 +142,88 @@ module _ (co : Common) (s : Sources) (targets : ℕ → ℕ) (h th : ℕ) where
     from-one : 0 < i
     from-one = omega (arith, p .next, lowest-from 63 1 (marks left))
 
-    pub looked-less : (left′ : ℕ) → left′ ≡ putOf left i false → left′ < left
-    looked-less left′ e = omega (arith, e, put-less left i l there)
+    pub looked-some : 0 < left
+    looked-some = some-bit i left there
+
+    pub looked-less : (left′ : ℕ) → left′ ≡ bitAnd left (left - 1) → left′ < left
+    looked-less left′ e = omega (arith, e, clear-less left looked-some)
+
+    -- i is the lowest that is left
+    none-below : (k : ℕ) → k < i → marks left k ≡ false
+    none-below zero b = p .even
+    none-below (suc k) b = lowest-before 63 1 (marks left) (suc k) (omega arith) (omega (arith, p .next))
+
+    cleared : (j : ℕ) → marks (bitAnd left (left - 1)) j ≡ pick (eqb j i) false (marks left j)
+    cleared j = clear-lowest i j left there none-below
 
     -- the sources looked at are those before, and i
     data Seen (j : ℕ) : Type 0 where
       before : marks left j ≡ false → Seen j
       last : j ≡ i → Seen j
 
-    looked-at : (j : ℕ) → marks (putOf left i false) j ≡ false → Seen j
-    looked-at j e = go (eqb j i) refl (sym (bit-put j left i false l) ∙ e)
+    looked-at : (j : ℕ) → marks (bitAnd left (left - 1)) j ≡ false → Seen j
+    looked-at j e = go (eqb j i) refl (sym (cleared j) ∙ e)
       where
         go : (b : Bool) → eqb j i ≡ b → pick b false (marks left j) ≡ false → Seen j
         go true q f = last (eqb-true j i q)
         go false q f = before f
 
-    part-left : (j : ℕ) → marks (putOf left i false) j ≡ true → marks left j ≡ true
-    part-left j e = go (eqb j i) (sym (bit-put j left i false l) ∙ e)
+    part-left : (j : ℕ) → marks (bitAnd left (left - 1)) j ≡ true → marks left j ≡ true
+    part-left j e = go (eqb j i) (sym (cleared j) ∙ e)
       where
         go : (b : Bool) → pick b false (marks left j) ≡ true → marks left j ≡ true
         go true z = absurd (never z)
         go false z = z
 
+    part-even : marks (bitAnd left (left - 1)) 0 ≡ false
+    part-even = cleared 0 ∙ go (eqb 0 i)
+      where
+        go : (b : Bool) → pick b false (marks left 0) ≡ false
+        go true = refl
+        go false = p .even
+
     -- i is taken, or passed over
-    taken : hartIndex (targets i) ≡ h → keyOf i (targets i) < best → (n : ℕ) → n ≡ lowest 63 1 (marks (putOf left i false)) → Looked (putOf left i false) (keyOf i (targets i)) n
+    taken : hartIndex (targets i) ≡ h → keyOf i (targets i) < best → (n : ℕ) → n ≡ lowest 63 1 (marks (bitAnd left (left - 1))) → Looked (bitAnd left (left - 1)) (keyOf i (targets i)) n
     taken m k n e =
-        let c : Counts i = record { waiting = p .part i there; mine = m; passed = limit-passes th i (targets i) (omega (arith, p .low)) } in
+        let c : Counts i = record { waiting = p .part i from-one there; mine = m; passed = limit-passes th i (targets i) (omega (arith, p .low)) } in
         record {
           next = e;
           found = one (lead-is i from-one l c);
           low = omega (arith, p .low);
           least = λ j a b w f mj. at j (looked-at j f) a b w mj;
-          part = λ j f. p .part j (part-left j f);
+          part = λ j a f. p .part j a (part-left j f);
+          even = part-even;
         }
       where
         at : (j : ℕ) → Seen j → 0 < j → j < 64 → marks waits j ≡ true → hartIndex (targets j) ≡ h → keyOf i (targets i) ≤ keyOf j (targets j)
         at j (before f) a b w mj = omega (arith, p .least j a b w f mj)
         at j (last q) a b w mj = rw q (omega arith)
 
-    passed-over : (hartIndex (targets i) ≡ h → best ≤ keyOf i (targets i)) → (n : ℕ) → n ≡ lowest 63 1 (marks (putOf left i false)) → Looked (putOf left i false) best n
+    passed-over : (hartIndex (targets i) ≡ h → best ≤ keyOf i (targets i)) → (n : ℕ) → n ≡ lowest 63 1 (marks (bitAnd left (left - 1))) → Looked (bitAnd left (left - 1)) best n
     passed-over k n e =
         record {
           next = e;
           found = p .found;
           low = p .low;
           least = λ j a b w f mj. at j (looked-at j f) a b w mj;
-          part = λ j f. p .part j (part-left j f);
+          part = λ j a f. p .part j a (part-left j f);
+          even = part-even;
         }
       where
         at : (j : ℕ) → Seen j → 0 < j → j < 64 → marks waits j ≡ true → hartIndex (targets j) ≡ h → best ≤ keyOf j (targets j)
         at j (before f) a b w mj = p .least j a b w f mj
         at j (last q) a b w mj = subst (λ (x : ℕ). best ≤ keyOf x (targets x)) (sym q) (k (subst (λ (x : ℕ). hartIndex (targets x) ≡ h) q mj))
 
-    step : (r n : ℕ) → r ≡ betterOf h i (targets i) best → n ≡ lowest 63 1 (marks (putOf left i false)) → Looked (putOf left i false) r n
+    step : (r n : ℕ) → r ≡ betterOf h i (targets i) best → n ≡ lowest 63 1 (marks (bitAnd left (left - 1))) → Looked (bitAnd left (left - 1)) r n
     unfolding betterOf
-    step r n e f = subst (λ (x : ℕ). Looked (putOf left i false) x n) (sym e) (go (eqb (hartIndex (targets i)) h) refl (ltb (keyOf i (targets i)) best) refl)
+    step r n e f = subst (λ (x : ℕ). Looked (bitAnd left (left - 1)) x n) (sym e) (go (eqb (hartIndex (targets i)) h) refl (ltb (keyOf i (targets i)) best) refl)
       where
-        go : (a : Bool) → eqb (hartIndex (targets i)) h ≡ a → (b : Bool) → ltb (keyOf i (targets i)) best ≡ b → Looked (putOf left i false) (pick (a && b) (keyOf i (targets i)) best) n
+        go : (a : Bool) → eqb (hartIndex (targets i)) h ≡ a → (b : Bool) → ltb (keyOf i (targets i)) best ≡ b → Looked (bitAnd left (left - 1)) (pick (a && b) (keyOf i (targets i)) best) n
         go true m true k = taken (eqb-true _ _ m) (ltb-true _ _ k) n f
         go true m false k = passed-over (λ x. ltb-false _ _ k) n f
         go false m b k = passed-over (λ x. absurd (eqb-false _ _ m x)) n f
 
-    pub looked-next : (r n left′ : ℕ) → r ≡ betterOf h i (targets i) best → left′ ≡ putOf left i false → n ≡ lowest 63 1 (marks left′) → Looked left′ r n
+    pub looked-next : (r n left′ : ℕ) → r ≡ betterOf h i (targets i) best → left′ ≡ bitAnd left (left - 1) → n ≡ lowest 63 1 (marks left′) → Looked left′ r n
     looked-next r n left′ e q f = subst (λ (x : ℕ). Looked x r n) (sym q) (step r n e (subst (λ (x : ℕ). n ≡ lowest 63 1 (marks x)) q f))
 
   -- ---- after it
@@ -245,4 +268,4 @@ module _ (co : Common) (s : Sources) (targets : ℕ → ℕ) (h th : ℕ) where
     unfolding topAt
     looked-done r e = e ∙ done (p .found)
 
-pub ruleset looks = (looked-first, looked-next, looked-less, looked-done)
+pub ruleset looks = (looked-first, looked-next, looked-some, looked-less, looked-done)

@@ -225,12 +225,12 @@ impl Domain {
     fn top(self, hart: u64, threshold: u32) -> u32
         ensures { λ r. ⌜ r ≡ topAt hart threshold (tableOf self) ⌝ }
     {
-        let mut left = self.sources.pending & self.sources.enable;
+        let mut left = word::above_zero(self.sources.pending & self.sources.enable);
         let mut best = hart::limit(threshold);
         let mut i = word::first_of(left);
         while i < 64 {
             best = hart::better(hart, i, self.targets[i as usize], best);
-            left = word::put(left, i, false);
+            left = word::drop_first(left);
             i = word::first_of(left);
         }
         hart::top_word(best)

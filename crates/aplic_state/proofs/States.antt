@@ -2,7 +2,7 @@
 use mathlib.Core.Path.{_≡_, refl, sym, ap, ap₂, _∙_, subst, fun-ext}
 use mathlib.Core.Bool.{Bool, true, false, not, _&&_}
 use mathlib.Core.List.{List, [], _∷_}
-use Prim.Native.Nat.{ℕ, zero, suc, _+_, _*_, _/_, _%_, _<_, _≤_}
+use Prim.Native.Nat.{ℕ, zero, suc, _+_, _-_, _*_, _/_, _%_, _<_, _≤_}
 use native.Mathlib.Nat.{mod-eq-of-lt}
 use native.Mathlib.Omega.{arith}
 use borrow.Author.Tests.{eqb-true, eqb-false, lt-ltb, le-ltb, ltb-true}
@@ -13,7 +13,7 @@ use lib.Seq.{getD-set-same, getD-set-other}
 use Rattle.memory.specs.Bits.{bits}
 use Rattle.memory.specs.Choice.{pick}
 use Rattle.memory.proofs.Choices.{pick-same, yes-is, no-is}
-use Rattle.word.specs.Word.{marks, inside, only, digit, lowest, putOf}
+use Rattle.word.specs.Word.{marks, inside, only, digit, lowest}
 use Rattle.word.proofs.Bits.{never, and-true, within, zero-digit}
 use Rattle.register.specs.declared.BitRegister.{BitRegister}
 use Rattle.register.specs.declared.HartRegister.{HartRegister}
@@ -42,7 +42,7 @@ use Rattle.aplic.specs.Direct.{reaches, withHart, topAt, topi, claimTable, clai
 use Rattle.aplic.specs.Calls.{wireTable, concerned, change, enabledBy, writeRegister, ignoresRegister, ignores, readBits, readRegister, domainWord, forwardTable, sends, sentOf, msiOf}
 use Rattle.aplic.specs.Domain.{Shows}
 use Rattle.aplic.proofs.Tables.{same-table, acts-ext, handed-is, acts-table, row-at, configured-table, aimed-table, wired-table, written, told, idc-written, idc-told, idc-left, none-sent, none-waits, kept-table, kept-sent, forwarded-table, forwarded-sent}
-use Rattle.aplic.proofs.Tops.{Looked, looked-first, looked-next, looked-less, looked-done}
+use Rattle.aplic.proofs.Tops.{Looked, looked-first, looked-next, looked-some, looked-less, looked-done}
 use Rattle.aplic.proofs.Claims.{with-own, reach-yes, reach-mode, unreached-claim, unreached-value, unreached-write, unreached-read, unreached-signal}
 use Rattle.aplic.proofs.Claims.{top-reached, nothing-table, nothing-hart, taken-hart, taken-table, claimed-by, wrote-is, tells-delivery, tells-force, tells-threshold, tells-top, table-forced, table-top, table-off}
 use Rattle.aplic.proofs.Domains.{not-on, not-off}
@@ -509,19 +509,19 @@ module _ (ws : List ℕ) where
   record-low h = record-small _
 
   -- the loop
-  abbrev waits : ℕ
-  waits = bitAnd (getD ws 5 0) (getD ws 6 0)
-
-  pub top-first : (h th best i : ℕ) → best ≡ limitOf th → i ≡ lowest 63 1 (marks waits) → Looked (commonIn ws) (sourcesIn ws) (targetIn ws) h th waits best i
+  pub top-first : (h th left best i : ℕ) → left ≡ bitAnd (getD ws 5 0) (getD ws 6 0) / 2 * 2 → best ≡ limitOf th → i ≡ lowest 63 1 (marks left) → Looked (commonIn ws) (sourcesIn ws) (targetIn ws) h th left best i
   unfolding sourcesIn
-  top-first h th best i = looked-first (commonIn ws) (sourcesIn ws) (targetIn ws) h th best i
+  top-first h th left best i e = looked-first (commonIn ws) (sourcesIn ws) (targetIn ws) h th left best i e
 
   module _ (h th left best i : ℕ) (p : Looked (commonIn ws) (sourcesIn ws) (targetIn ws) h th left best i) where
-    pub top-next : (r n t left′ : ℕ) → i < 64 → t ≡ targetIn ws i → r ≡ betterOf h i t best → left′ ≡ putOf left i false → n ≡ lowest 63 1 (marks left′)
+    pub top-next : (r n t left′ : ℕ) → i < 64 → t ≡ targetIn ws i → r ≡ betterOf h i t best → left′ ≡ bitAnd left (left - 1) → n ≡ lowest 63 1 (marks left′)
         → Looked (commonIn ws) (sourcesIn ws) (targetIn ws) h th left′ r n
     top-next r n t left′ l ht hr = looked-next (commonIn ws) (sourcesIn ws) (targetIn ws) h th left best i p l r n left′ (hr ∙ ap (λ (x : ℕ). betterOf h i x best) ht)
 
-    pub top-less : (left′ : ℕ) → i < 64 → left′ ≡ putOf left i false → left′ < left
+    pub top-some : i < 64 → 0 < left
+    top-some l = looked-some (commonIn ws) (sourcesIn ws) (targetIn ws) h th left best i p l
+
+    pub top-less : (left′ : ℕ) → i < 64 → left′ ≡ bitAnd left (left - 1) → left′ < left
     top-less left′ l = looked-less (commonIn ws) (sourcesIn ws) (targetIn ws) h th left best i p l left′
 
     pub top-done : (r : ℕ) → 64 ≤ i → r ≡ topWord best → r ≡ topAt h th (tableIn ws)
@@ -630,7 +630,7 @@ module _ (ws : List ℕ) where
               go true p q = table-off (tableIn ws) h (there p) x own (sym on-there ∙ q)
               go false p q = unreached-signal (tableIn ws) h (not-there p)
 
-pub ruleset tops = (top-first, top-next, top-less, top-done)
+pub ruleset tops = (top-first, top-next, top-some, top-less, top-done)
 
 pub ruleset hart-writes = (hart-written, hart-ignored, not-message)
 

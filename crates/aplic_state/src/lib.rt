@@ -129,12 +129,12 @@ fn top(state: &[u64], hart: u64, threshold: u32) -> u32
     requires { ⌜ 87 ≤ lengthOf (now state) ⌝ }
     ensures { λ r. ⌜ r ≡ topAt hart threshold (tableIn (now (state .entry))) ⌝ }
 {
-    let mut left = state[5] & state[6];
+    let mut left = word::above_zero(state[5] & state[6]);
     let mut best = hart::limit(threshold);
     let mut i = word::first_of(left);
     while i < 64 {
         best = hart::better(hart, i, target_in(state, i), best);
-        left = word::put(left, i, false);
+        left = word::drop_first(left);
         i = word::first_of(left);
     }
     hart::top_word(best)

@@ -14,7 +14,7 @@ use lib.Count.{trailingZeros, under, trailing-le}
 use mir.Syntax.{w64}
 use mir.Val.{Fits}
 use mir.Facts.{fits-le, fits-lit}
-use lib.Bits.{bitAnd, bitOr, bitXor, differ, and-step, or-step, xor-step, and-shr, or-shr, xor-shr, and-le-l, shifted-half, shifted-even}
+use lib.Bits.{bitAnd, bitOr, bitXor, differ, and-step, or-step, xor-step, and-shr, or-shr, xor-shr, and-le-l, and-le-r, and-self, shifted-half, shifted-even}
 use Rattle.memory.specs.Bits.{without}
 use Rattle.memory.specs.Choice.{pick}
 use Rattle.memory.proofs.Choices.{eqb-same, yes-is, no-is}
@@ -263,19 +263,56 @@ pub never : false ≡ true → ⊥
 unfolding No
 never e = subst No e tt
 
--- a number taken out leaves less
-pub put-less : (x n : ℕ) → n < 64 → marks x n ≡ true → putOf x n false < x
-put-less x n l e = less (bitAnd x (1 * 2 ^ n % 2 ^ 64)) (and-le-l x (1 * 2 ^ n % 2 ^ 64)) there
+-- the lowest number taken out: j is in x, and none below it
+odd-is : (x : ℕ) → odd x ≡ true → x % 2 ≡ 1
+odd-is x e = eqb-true (x % 2) 1 e
+
+even-is : (x : ℕ) → odd x ≡ false → x % 2 ≡ 0
+even-is x e = go (x % 2) (two (x % 2) (mod2 x)) e
   where
-    both : (a b : Bool) → a ≡ true → b ≡ true → a && b ≡ true
-    both a b p q = rw (p, q)
+    go : (p : ℕ) → Two p → eqb p 1 ≡ false → p ≡ 0
+    go _ nought q = refl
+    go _ one q = sym (absurd (never (sym q)))
 
-    there : bit n (bitAnd x (1 * 2 ^ n % 2 ^ 64)) ≡ true
-    there = bit-and n x (1 * 2 ^ n % 2 ^ 64) ∙ both _ _ e (bit-one n n l ∙ eq-eqb n n refl)
+step-odd : (x : ℕ) → x % 2 ≡ 1 → bitAnd x (x - 1) ≡ bitAnd (x / 2) (x / 2) * 2
+step-odd x e =
+    let h : (x - 1) / 2 ≡ x / 2 = omega arith in
+    let r : (x - 1) % 2 ≡ 0 = omega arith in
+    and-step x (x - 1) ∙ rw (h, r, e) (omega arith)
 
-    less : (y : ℕ) → y ≤ x → bit n y ≡ true → x - y < x
-    less zero h q = absurd (never (sym (zero-digit n) ∙ q))
-    less (suc y) h q = omega arith
+step-even : (x : ℕ) → 0 < x → x % 2 ≡ 0 → bitAnd x (x - 1) ≡ bitAnd (x / 2) (x / 2 - 1) * 2
+step-even x l e =
+    let h : (x - 1) / 2 ≡ x / 2 - 1 = omega arith in
+    let r : (x - 1) % 2 ≡ 1 = omega arith in
+    and-step x (x - 1) ∙ rw (h, r, e) (omega arith)
+
+low-of : (y : ℕ) → bit 0 (y * 2) ≡ false
+low-of y = let e : y * 2 % 2 ≡ 0 = omega arith in rw (bit-zero, e)
+
+up-of : (i y : ℕ) → bit (suc i) (y * 2) ≡ bit i y
+up-of i y = let e : y * 2 / 2 ≡ y = omega arith in rw (bit-suc, e)
+
+pub some-bit : (j x : ℕ) → bit j x ≡ true → 0 < x
+some-bit j zero e = absurd (never (sym (zero-digit j) ∙ e))
+some-bit j (suc x) e = omega arith
+
+pub clear-lowest : (j i x : ℕ) → bit j x ≡ true → ((k : ℕ) → k < j → bit k x ≡ false) → bit i (bitAnd x (x - 1)) ≡ pick (eqb i j) false (bit i x)
+clear-lowest zero zero x e h = ap (bit 0) (step-odd x (odd-is x (sym (bit-zero x) ∙ e))) ∙ low-of (bitAnd (x / 2) (x / 2))
+clear-lowest zero (suc i) x e h =
+    ap (bit (suc i)) (step-odd x (odd-is x (sym (bit-zero x) ∙ e))) ∙ up-of i (bitAnd (x / 2) (x / 2)) ∙ ap (bit i) (and-self (x / 2))
+    ∙ sym (bit-suc i x) ∙ no-is _ _ _ _ (ne-eqb (suc i) 0 (λ q. omega arith)) refl
+clear-lowest (suc j) zero x e h =
+    let z : bit 0 x ≡ false = h 0 (omega arith) in
+    ap (bit 0) (step-even x (some-bit (suc j) x e) (even-is x (sym (bit-zero x) ∙ z))) ∙ low-of (bitAnd (x / 2) (x / 2 - 1)) ∙ sym z
+    ∙ no-is _ _ _ _ (ne-eqb 0 (suc j) (λ q. omega arith)) refl
+clear-lowest (suc j) (suc i) x e h =
+    let z : bit 0 x ≡ false = h 0 (omega arith) in
+    ap (bit (suc i)) (step-even x (some-bit (suc j) x e) (even-is x (sym (bit-zero x) ∙ z))) ∙ up-of i (bitAnd (x / 2) (x / 2 - 1))
+    ∙ clear-lowest j i (x / 2) (sym (bit-suc j x) ∙ e) (λ k l. sym (bit-suc k x) ∙ h (suc k) (omega arith))
+    ∙ ap₂ (λ (a b : Bool). pick a false b) (eqb-suc i j) (sym (bit-suc i x))
+
+pub clear-less : (x : ℕ) → 0 < x → bitAnd x (x - 1) < x
+clear-less x l = omega (arith, and-le-r x (x - 1))
 
 -- ---- the halves
 upper : (x : ℕ) → x < 2 ^ 64 → x / 2 ^ 32 ≡ x / 2 ^ 32 % 2 ^ 32
@@ -330,8 +367,11 @@ pub no-bit : (n i : ℕ) → 64 ≤ n → inside i ≡ true → marks 0 i ≡ on
 unfolding only
 no-bit n i l h = let w = within i h in zero-digit i ∙ sym (ne-eqb i n (λ e. omega arith))
 
-even-up : (x i : ℕ) → 1 ≤ i → bit i (x / 2 * 2) ≡ bit i x
+pub even-up : (x i : ℕ) → 1 ≤ i → bit i (x / 2 * 2) ≡ bit i x
 even-up x i a = even-bit i x ∙ ap (λ (b : Bool). b && bit i x) (lt-ltb 0 i (omega arith))
+
+pub even-zero : (x : ℕ) → bit 0 (x / 2 * 2) ≡ false
+even-zero x = even-bit 0 x
 
 pub first-is : (x : ℕ) → trailingZeros 64 (x / 2 * 2) ≡ lowest 63 1 (marks x)
 unfolding lowest

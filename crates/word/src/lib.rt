@@ -1,7 +1,8 @@
 // A word as a set of the numbers 0 to 63: number i is in it where bit i is 1. Sources are 1 to 63, so bit 0 counts for nothing.
 ghost use mathlib.Core.Path.{_≡_};
 ghost use mathlib.Core.Bool.{true, _&&_};
-ghost use Prim.Native.Nat.{ℕ, _<_};
+ghost use Prim.Native.Nat.{ℕ, _<_, _-_, _*_, _/_};
+ghost use lib.Bits.{bitAnd};
 ghost use Rattle.memory.specs.Bits.{without as withoutOf};
 ghost use Rattle.word.specs.Word.{marks, putOf, setOf, half, inside, chosen, only, lowest};
 
@@ -74,6 +75,21 @@ pub fn first_of(x: u64) -> u64
     ensures { λ r. ⌜ r ≡ lowest 63 1 (marks x) ⌝ }
 {
     u64::trailing_zeros(x / 2 * 2) as u64
+}
+
+// Without number 0.
+pub fn above_zero(x: u64) -> u64
+    ensures { λ r. ⌜ r ≡ x / 2 * 2 ⌝ }
+{
+    x / 2 * 2
+}
+
+// Without the lowest of its numbers.
+pub fn drop_first(x: u64) -> u64
+    requires { ⌜ 0 < x ⌝ }
+    ensures { λ r. ⌜ r ≡ bitAnd x (x - 1) ⌝ }
+{
+    x & (x - 1)
 }
 
 // Every number, or none.
