@@ -327,8 +327,8 @@ pub extern "C" fn yasmurekh_aplic_claim(state: &mut [u64], hart: u64, out: &mut 
     }
     let refusal = hart::refusal(hart);
     if refusal == 0 {
-        let value = aplic_state::claim(state, hart);
-        out[0] = value as u64;
+        let taken = aplic_state::claim(state, hart);
+        out[0] = taken as u64;
     }
     refusal
 }
