@@ -1,7 +1,7 @@
 -- Harts of a table: their registers, claims and signals, by the tests that the code makes. Assumes nothing.
 use mathlib.Core.Path.{_≡_, refl, sym, ap, ap₂, _∙_, fun-ext}
 use mathlib.Core.Bool.{Bool, true, false, not, _&&_, _||_}
-use Prim.Native.Nat.{ℕ, _<_, _≤_, _/_, _%_}
+use Prim.Native.Nat.{ℕ, _<_, _/_, _%_}
 use native.Mathlib.Decide.{decLt}
 use native.Mathlib.Omega.{arith}
 use borrow.Author.Tests.{eq-eqb, ne-eqb, eqb-true, lt-ltb, le-ltb}
@@ -11,11 +11,14 @@ use Rattle.memory.proofs.Choices.{yes-is, no-is}
 use Rattle.word.specs.Word.{only, digit}
 use Rattle.register.specs.declared.HartRegister.{HartRegister}
 use Rattle.register.specs.declared.HartRegister.the-variants.{IDelivery, IForce, IThreshold, TopI}
+use Rattle.register.specs.declared.Idc.{Idc}
+use Rattle.register.specs.declared.Idc.the-variants.{OfHart, ClaimI, Reserved}
+use Rattle.register.specs.Register.{idcOf}
 use Rattle.hart.specs.declared.Hart.{Hart}
 use Rattle.hart.specs.Hart.{wroteOf, unforced, hartRefusal}
 use Rattle.source.specs.Source.{directOf, handed}
 use Rattle.source.specs.Table.{Table, act}
-use Rattle.aplic.specs.Direct.{reaches, withHart, topAt, topi, claimTable, claimHart, claimed, claimValue, writeHart, readHart, signalled, tells}
+use Rattle.aplic.specs.Direct.{reaches, withHart, topAt, topi, claimTable, claimHart, claimed, claimValue, writeHart, readHart, writeIdc, readIdc, claimedBy, signalled, tells}
 
 pub below-of : (h r : ℕ) → r ≡ hartRefusal h → r ≡ 0 → h < 16
 unfolding hartRefusal
@@ -197,3 +200,57 @@ claim-small t h x l = go (reaches h t) (eqb (topi h (x .threshold) t) 0)
     go true true = l
     go true false = l
     go false c = l
+
+-- ---- by what an offset names in the IDC structures
+module _ (o v : ℕ) (g : Idc) (p : g ≡ idcOf o) (t : Table) where
+  written-by : (h : Idc) (x : Table) → g ≡ h → x ≡ writeIdc h v t → x ≡ writeIdc (idcOf o) v t
+  written-by h x q e = e ∙ ap (λ (k : Idc). writeIdc k v t) (sym q ∙ p)
+
+  told-by : (h : Idc) → g ≡ h → v ≡ readIdc h t → v ≡ readIdc (idcOf o) t
+  told-by h q e = e ∙ ap (λ (k : Idc). readIdc k t) (sym q ∙ p)
+
+  pub write-hart : (h : ℕ) (k : HartRegister) (x : Table) → g ≡ OfHart h k → x ≡ writeHart h k v t → x ≡ writeIdc (idcOf o) v t
+  unfolding writeIdc
+  write-hart h k x q e = written-by (OfHart h k) x q e
+
+  pub write-claim : (h : ℕ) → g ≡ ClaimI h → t ≡ writeIdc (idcOf o) v t
+  unfolding writeIdc
+  write-claim h q = written-by (ClaimI h) t q refl
+
+  pub write-reserved : g ≡ Reserved → t ≡ writeIdc (idcOf o) v t
+  unfolding writeIdc
+  write-reserved q = written-by Reserved t q refl
+
+  pub read-hart : (h : ℕ) (k : HartRegister) → g ≡ OfHart h k → v ≡ readHart h k t → v ≡ readIdc (idcOf o) t
+  unfolding readIdc
+  read-hart h k q e = told-by (OfHart h k) q e
+
+  pub read-claim : (h : ℕ) → g ≡ ClaimI h → v ≡ claimValue h t → v ≡ readIdc (idcOf o) t
+  unfolding readIdc
+  read-claim h q e = told-by (ClaimI h) q e
+
+  pub read-reserved : g ≡ Reserved → v ≡ 0 → v ≡ readIdc (idcOf o) t
+  unfolding readIdc
+  read-reserved q e = told-by Reserved q e
+
+module _ (o : ℕ) (g : Idc) (p : g ≡ idcOf o) (t : Table) where
+  left-by : (h : Idc) (x : Table) → g ≡ h → x ≡ claimedBy h t → x ≡ claimedBy (idcOf o) t
+  left-by h x q e = e ∙ ap (λ (k : Idc). claimedBy k t) (sym q ∙ p)
+
+  pub left-hart : (h : ℕ) (k : HartRegister) → g ≡ OfHart h k → t ≡ claimedBy (idcOf o) t
+  unfolding claimedBy
+  left-hart h k q = left-by (OfHart h k) t q refl
+
+  pub left-claim : (h : ℕ) (x : Table) → g ≡ ClaimI h → x ≡ claimed h t → x ≡ claimedBy (idcOf o) t
+  unfolding claimedBy
+  left-claim h x q e = left-by (ClaimI h) x q e
+
+  pub left-reserved : g ≡ Reserved → t ≡ claimedBy (idcOf o) t
+  unfolding claimedBy
+  left-reserved q = left-by Reserved t q refl
+
+pub ruleset idc-writes = (write-hart, write-claim, write-reserved)
+
+pub ruleset idc-reads = (read-hart, read-claim, read-reserved)
+
+pub ruleset lefts = (left-hart, left-claim, left-reserved)

@@ -1,6 +1,6 @@
 -- The calls of a domain by value. Assumes nothing.
 use mathlib.Core.Path.{_≡_, refl, sym, ap, ap₂, _∙_, fun-ext}
-use mathlib.Core.Bool.{Bool, true, false, not, _&&_, _||_}
+use mathlib.Core.Bool.{Bool, true, false, not, _&&_}
 use mathlib.Core.List.{List, map}
 use Prim.Native.Nat.{ℕ, zero, suc, _<_, _≤_, _+_, _-_, _*_, _/_, _%_, _^_}
 use native.Mathlib.Nat.{div-one}
@@ -16,9 +16,7 @@ use Rattle.word.proofs.Bits.{and-true, within, is-inside, zero-digit}
 use Rattle.register.specs.declared.BitRegister.{BitRegister}
 use Rattle.register.specs.declared.Register.{Register}
 use Rattle.register.specs.declared.Register.the-variants.{DomainCfg, SourceCfg, OfBits, Target, Nothing}
-use Rattle.register.specs.declared.Idc.{Idc}
-use Rattle.register.specs.declared.Idc.the-variants.{OfHart, ClaimI, Reserved}
-use Rattle.register.specs.Register.{registerOf, idcOf}
+use Rattle.register.specs.Register.{registerOf}
 use Rattle.register.proofs.Known.{source-above, source-below, target-above, target-below}
 use Rattle.register.specs.declared.HartRegister.{HartRegister}
 use Rattle.register.specs.declared.HartRegister.the-variants.{IDelivery, IForce, IThreshold, TopI}
@@ -29,17 +27,17 @@ use Rattle.hart.proofs.Records.{same-record, record-small, record-rests, wrote-
 use Rattle.source.specs.declared.Delivery.{Delivery}
 use Rattle.source.specs.declared.Delivery.the-variants.{Direct, Message}
 use Rattle.source.specs.declared.Source.{Source}
-use Rattle.source.specs.Source.{directOf, numberOf, handed, sensed, lowered, configured, aimed}
-use Rattle.source.specs.Table.{Table, quiet, startOf, act}
+use Rattle.source.specs.Source.{directOf, numberOf, sensed, lowered, configured, aimed}
+use Rattle.source.specs.Table.{quiet, startOf, act}
 use Rattle.sources.specs.declared.Sources.{Sources}
 use Rattle.sources.specs.Sources.{sourceOf, tableWith, Acts, lined, firstWaiting}
 use Rattle.aplic.specs.declared.Domain.{Domain}
 use Rattle.aplic.specs.declared.Msi.{Msi}
-use Rattle.aplic.specs.declared.Sent.the-variants.{Idle, Forwarded}
+use Rattle.aplic.specs.declared.Sent.the-variants.{Forwarded}
 use Rattle.aplic.specs.Calls.{wireTable, wireRefusal, concerned, change, enabledBy, writeRegister, readRegister, deliveryNumber, domainWord, forwardTable, sends, sentOf, msiOf}
-use Rattle.aplic.specs.Direct.{reaches, withHart, topAt, topi, claimTable, claimHart, claimed, claimValue, writeHart, readHart, writeIdc, readIdc, claimedBy, signalled, tells}
+use Rattle.aplic.specs.Direct.{reaches, withHart, topAt, topi, claimTable, claimHart, claimed, claimValue, writeHart, readHart, signalled}
 use Rattle.aplic.specs.Domain.{commonOf, tableOf, Shows}
-use Rattle.aplic.proofs.Tables.{same-table, acts-ext, handed-is, written, told, idc-written, idc-told, idc-left, acts-table, row-at, configured-table, aimed-table, wired-table, unwired-table, none-sent, none-waits, kept-table, kept-sent, forwarded-table, forwarded-sent}
+use Rattle.aplic.proofs.Tables.{same-table, acts-ext, handed-is, written, told, acts-table, row-at, configured-table, aimed-table, wired-table, unwired-table, none-sent, none-waits, kept-table, kept-sent, forwarded-table, forwarded-sent}
 use Rattle.aplic.proofs.Tops.{Looked, looked-first, looked-next, looked-some, looked-less, looked-done}
 use Rattle.aplic.proofs.Claims.{reach-yes, reach-mode, reach-refused, below-of, unreached-topi, unreached-table, unreached-hart, unreached-claim, unreached-value, unreached-write, unreached-read, unreached-signal}
 use Rattle.aplic.proofs.Claims.{top-reached, nothing-topi, nothing-table, nothing-hart, taken-hart, taken-table, claimed-by, claim-small, wrote-is, tells-delivery, tells-force, tells-threshold, tells-top, table-forced, table-top, table-off}
@@ -201,45 +199,6 @@ module _ (d : Domain) where
       read-target q e =
           told o x g p (Target n) (tableOf d) q
           (e ∙ ap (λ (y : Source). y .target) (row-at (commonOf d) (d .sources) (d .sources) (aims (d .targets)) n (target-above o n g p q) (target-below o n g p q)))
-
-  -- ---- the IDC structures
-  module _ (o v : ℕ) (g : Idc) (p : g ≡ idcOf o) where
-    pub write-hart : (h : ℕ) (k : HartRegister) (r : Domain) → g ≡ OfHart h k → tableOf r ≡ writeHart h k v (tableOf d) → tableOf r ≡ writeIdc (idcOf o) v (tableOf d)
-    unfolding writeIdc
-    write-hart h k r q e = idc-written o v g p (OfHart h k) (tableOf d) _ q e
-
-    pub write-claim : (h : ℕ) → g ≡ ClaimI h → tableOf d ≡ writeIdc (idcOf o) v (tableOf d)
-    unfolding writeIdc
-    write-claim h q = idc-written o v g p (ClaimI h) (tableOf d) _ q refl
-
-    pub write-reserved : g ≡ Reserved → tableOf d ≡ writeIdc (idcOf o) v (tableOf d)
-    unfolding writeIdc
-    write-reserved q = idc-written o v g p Reserved (tableOf d) _ q refl
-
-    pub read-hart : (h : ℕ) (k : HartRegister) → g ≡ OfHart h k → v ≡ readHart h k (tableOf d) → v ≡ readIdc (idcOf o) (tableOf d)
-    unfolding readIdc
-    read-hart h k q e = idc-told o v g p (OfHart h k) (tableOf d) q e
-
-    pub read-claim : (h : ℕ) → g ≡ ClaimI h → v ≡ claimValue h (tableOf d) → v ≡ readIdc (idcOf o) (tableOf d)
-    unfolding readIdc
-    read-claim h q e = idc-told o v g p (ClaimI h) (tableOf d) q e
-
-    pub read-reserved : g ≡ Reserved → v ≡ 0 → v ≡ readIdc (idcOf o) (tableOf d)
-    unfolding readIdc
-    read-reserved q e = idc-told o v g p Reserved (tableOf d) q e
-
-  module _ (o : ℕ) (g : Idc) (p : g ≡ idcOf o) where
-    pub left-hart : (h : ℕ) (k : HartRegister) → g ≡ OfHart h k → tableOf d ≡ claimedBy (idcOf o) (tableOf d)
-    unfolding claimedBy
-    left-hart h k q = idc-left o 0 g p (OfHart h k) (tableOf d) _ q refl
-
-    pub left-claim : (h : ℕ) (r : Domain) → g ≡ ClaimI h → tableOf r ≡ claimed h (tableOf d) → tableOf r ≡ claimedBy (idcOf o) (tableOf d)
-    unfolding claimedBy
-    left-claim h r q e = idc-left o 0 g p (ClaimI h) (tableOf d) _ q e
-
-    pub left-reserved : g ≡ Reserved → tableOf d ≡ claimedBy (idcOf o) (tableOf d)
-    unfolding claimedBy
-    left-reserved q = idc-left o 0 g p Reserved (tableOf d) _ q refl
 
   -- ---- a forward
   pub forward-off : (b : Bool) → b ≡ directOf (d .delivery) → d .enable && not b ≡ false → sends (tableOf d) ≡ false
@@ -461,12 +420,6 @@ pub ruleset ones = (configure-goes, aim-goes)
 
 pub ruleset writes = (write-nothing, write-domain, write-bits, write-source, write-target)
 
-pub ruleset idc-writes = (write-hart, write-claim, write-reserved)
-
 pub ruleset reads = (read-nothing, read-domain, read-bits, read-source, read-target)
-
-pub ruleset idc-reads = (read-hart, read-claim, read-reserved)
-
-pub ruleset lefts = (left-hart, left-claim, left-reserved)
 
 pub ruleset forwards = (kept-table, kept-sent, forward-off, forward-none, forward-goes, forward-sends)

@@ -1,20 +1,17 @@
 -- Tables of words and targets, wherever these are kept: what a change of the words makes of the table. Assumes nothing.
 use mathlib.Core.Path.{_≡_, refl, sym, ap, _∙_, fun-ext}
 use mathlib.Core.Bool.{Bool, true, false, not, _&&_}
-use Prim.Native.Nat.{ℕ, zero, suc, _+_, _<_, _≤_}
+use Prim.Native.Nat.{ℕ, _<_, _≤_}
 use native.Mathlib.Omega.{arith}
-use borrow.Author.Tests.{eqb-true, ne-eqb, lt-ltb, le-ltb}
+use borrow.Author.Tests.{eqb-true, lt-ltb, le-ltb}
 use lib.Dec.{eqb, ltb}
 use Rattle.memory.specs.Choice.{pick}
 use Rattle.memory.proofs.Choices.{yes-is, no-is}
-use Rattle.word.specs.Word.{marks, inside, half, chosen, only, lowest}
+use Rattle.word.specs.Word.{marks, inside, half, chosen, only}
 use Rattle.word.proofs.Bits.{within, is-inside, lowest-ext, lowest-from, half-ext}
 use Rattle.register.specs.declared.BitRegister.{BitRegister}
 use Rattle.register.specs.declared.BitRegister.the-variants.{SetIp, SetIpNum, InClrIp, ClrIpNum, SetIe, SetIeNum, ClrIe, ClrIeNum}
 use Rattle.register.specs.declared.Register.{Register}
-use Rattle.register.specs.declared.Register.the-variants.{DomainCfg, SourceCfg, OfBits, Target, Nothing}
-use Rattle.register.specs.declared.Idc.{Idc}
-use Rattle.register.specs.declared.Idc.the-variants.{Reserved}
 use Rattle.register.specs.Register.{registerOf, idcOf}
 use Rattle.hart.specs.declared.Hart.{Hart}
 use Rattle.source.specs.declared.Delivery.{Delivery}
@@ -22,7 +19,7 @@ use Rattle.source.specs.declared.Delivery.the-variants.{Direct, Message}
 use Rattle.source.specs.declared.Mode.{Mode}
 use Rattle.source.specs.declared.Mode.the-variants.{Inactive, Detached, Edge1, Edge0, Level1, Level0}
 use Rattle.source.specs.declared.Source.{Source}
-use Rattle.source.specs.Source.{directOf, clrip, delivered, pendingAfter, inputOf, sensed, raised, lowered, handed, allowed, configured, aimed, numberOf}
+use Rattle.source.specs.Source.{directOf, clrip, delivered, pendingAfter, inputOf, sensed, raised, lowered, handed, allowed, aimed}
 use Rattle.source.specs.Table.{Table, quiet, act}
 use Rattle.sources.specs.declared.Sources.{Sources}
 use Rattle.sources.specs.Sources.{sourceOf, Common, tableWith, Acts, Inputs, lined, firstWaiting}
@@ -193,16 +190,6 @@ module _ (o v : ℕ) (g : Register) (p : g ≡ registerOf o) where
 
   pub told : (h : Register) (t : Table) → g ≡ h → v ≡ readRegister h t → v ≡ readRegister (registerOf o) t
   told h t q e = e ∙ ap (λ (k : Register). readRegister k t) (sym q ∙ p)
-
-module _ (o v : ℕ) (g : Idc) (p : g ≡ idcOf o) where
-  pub idc-written : (h : Idc) (t x : Table) → g ≡ h → x ≡ writeIdc h v t → x ≡ writeIdc (idcOf o) v t
-  idc-written h t x q e = e ∙ ap (λ (k : Idc). writeIdc k v t) (sym q ∙ p)
-
-  pub idc-told : (h : Idc) (t : Table) → g ≡ h → v ≡ readIdc h t → v ≡ readIdc (idcOf o) t
-  idc-told h t q e = e ∙ ap (λ (k : Idc). readIdc k t) (sym q ∙ p)
-
-  pub idc-left : (h : Idc) (t x : Table) → g ≡ h → x ≡ claimedBy h t → x ≡ claimedBy (idcOf o) t
-  idc-left h t x q e = e ∙ ap (λ (k : Idc). claimedBy k t) (sym q ∙ p)
 
 -- below 0x4000, and from there on
 module _ (o : ℕ) (t : Table) where

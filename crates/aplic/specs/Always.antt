@@ -1,6 +1,6 @@
 -- What document 002 says of every source at any time.
 use Prim.Native.Nat.{ℕ, _<_}
-use mathlib.Core.Bool.{Bool, true, false, not, _&&_}
+use mathlib.Core.Bool.{Bool, false, not, _&&_}
 use mathlib.Core.Path.{_≡_}
 use Rattle.hart.specs.Hart.{priority}
 use Rattle.source.specs.declared.Delivery.{Delivery}

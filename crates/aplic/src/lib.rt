@@ -1,7 +1,7 @@
 // One supervisor leaf domain of an APLIC: sources 1 to 63, message delivery or direct delivery to harts 0 to 15.
 ghost use mathlib.Core.Path.{_≡_};
 ghost use mathlib.Core.Bool.{true};
-ghost use Prim.Native.Nat.{ℕ, _<_};
+ghost use Prim.Native.Nat.{_<_};
 ghost use lib.ListN.{length};
 ghost use Rattle.hart.specs.Hart.{hartRefusal};
 ghost use Rattle.word.specs.Word.{only};

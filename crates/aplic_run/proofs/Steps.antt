@@ -12,7 +12,7 @@ use Rattle.aplic.specs.declared.Sent.{Sent}
 use Rattle.aplic.specs.declared.Sent.the-variants.{Forwarded, Idle}
 use Rattle.aplic.specs.Calls.{wireTable, wireRefusal, writeTable, readTable, afterRead, forwardTable, sentOf}
 use Rattle.aplic.specs.Direct.{claimed, claimValue, signalled}
-use Rattle.aplic.specs.Run.{Call, wire, write, read, forward, claim, signal, Answer, refusal, done, value, sent, after, answer}
+use Rattle.aplic.specs.Run.{Call, wire, write, read, forward, claim, signal, sent, after, answer}
 use Rattle.aplic_run.specs.declared.Reply.{Reply}
 use Rattle.aplic_run.specs.Words.{callOf, lateCall, short, pair, replyOf}
 

@@ -8,8 +8,6 @@ use Rattle.memory.specs.Choice.{pick}
 use Rattle.word.specs.Word.{digit}
 use Rattle.source.specs.declared.Delivery.{Delivery}
 use Rattle.source.specs.Table.{startOf}
-use Rattle.aplic.specs.declared.Msi.{Msi}
-use Rattle.aplic.specs.declared.Sent.{Sent}
 use Rattle.aplic.specs.declared.Sent.the-variants.{Forwarded, Idle}
 use Rattle.aplic.specs.Run.{Call, wire, write, read, forward, claim, signal, Answer, refusal, done, value, sent, took, asserted, answers}
 use Rattle.aplic_run.specs.declared.Reply.{Reply}

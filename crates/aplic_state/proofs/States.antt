@@ -21,7 +21,7 @@ use Rattle.register.specs.declared.HartRegister.the-variants.{IDelivery, IForce
 use Rattle.register.specs.declared.Register.{Register}
 use Rattle.register.specs.declared.Register.the-variants.{DomainCfg, SourceCfg, OfBits, Target, Nothing}
 use Rattle.register.specs.declared.Idc.{Idc}
-use Rattle.register.specs.declared.Idc.the-variants.{OfHart, ClaimI, Reserved}
+use Rattle.register.specs.declared.Idc.the-variants.{OfHart, ClaimI}
 use Rattle.register.specs.Register.{registerOf, idcOf}
 use Rattle.register.proofs.Known.{source-above, source-below, target-above, target-below}
 use Rattle.hart.specs.declared.Hart.{Hart}
@@ -34,14 +34,14 @@ use Rattle.source.specs.declared.Source.{Source}
 use Rattle.source.specs.Source.{directOf, activeOf, modeOf, numberOf, sensed, lowered, handed, configured, firstTarget, aimed, targetOf}
 use Rattle.source.specs.Table.{Table, quiet, startOf, act}
 use Rattle.sources.specs.declared.Sources.{Sources}
-use Rattle.sources.specs.Sources.{sourceOf, Common, tableWith, Acts, lined, firstWaiting}
+use Rattle.sources.specs.Sources.{sourceOf, tableWith, Acts, lined, firstWaiting}
 use Rattle.aplic.specs.declared.Msi.{Msi}
 use Rattle.aplic.specs.declared.Sent.{Sent}
 use Rattle.aplic.specs.declared.Sent.the-variants.{Idle, Forwarded}
-use Rattle.aplic.specs.Direct.{reaches, withHart, topAt, topi, claimTable, claimHart, claimed, claimValue, writeHart, readHart, writeIdc, ignoresIdc, readIdc, claimedBy, claims, signalled}
+use Rattle.aplic.specs.Direct.{reaches, withHart, topAt, topi, claimTable, claimHart, claimed, claimValue, writeHart, readHart, ignoresIdc, claims, signalled}
 use Rattle.aplic.specs.Calls.{wireTable, concerned, change, enabledBy, writeRegister, ignoresRegister, ignores, readBits, readRegister, domainWord, forwardTable, sends, sentOf, msiOf}
 use Rattle.aplic.specs.Domain.{Shows}
-use Rattle.aplic.proofs.Tables.{same-table, acts-ext, handed-is, acts-table, row-at, configured-table, aimed-table, wired-table, written, told, idc-written, idc-told, idc-left, none-sent, none-waits, kept-table, kept-sent, forwarded-table, forwarded-sent}
+use Rattle.aplic.proofs.Tables.{same-table, acts-ext, handed-is, acts-table, row-at, configured-table, aimed-table, wired-table, written, told, none-sent, none-waits, kept-table, kept-sent, forwarded-table, forwarded-sent}
 use Rattle.aplic.proofs.Tops.{Looked, looked-first, looked-next, looked-some, looked-less, looked-done}
 use Rattle.aplic.proofs.Claims.{with-own, reach-yes, reach-mode, unreached-claim, unreached-value, unreached-write, unreached-read, unreached-signal}
 use Rattle.aplic.proofs.Claims.{top-reached, nothing-table, nothing-hart, taken-hart, taken-table, claimed-by, wrote-is, tells-delivery, tells-force, tells-threshold, tells-top, table-forced, table-top, table-off}
@@ -420,44 +420,7 @@ module _ (o : ℕ) (g : Register) (p : g ≡ registerOf o) (xs ys : List ℕ) wh
 pub ruleset changed = (changed-domain, changed-source, changed-bits, changed-target)
 
 -- ---- the IDC structures
-module _ (ws : List ℕ) (o v : ℕ) (g : Idc) (p : g ≡ idcOf o) where
-  pub write-hart : (h : ℕ) (k : HartRegister) (out : List ℕ) → g ≡ OfHart h k → tableIn out ≡ writeHart h k v (tableIn ws) → tableIn out ≡ writeIdc (idcOf o) v (tableIn ws)
-  unfolding writeIdc
-  write-hart h k out q e = idc-written o v g p (OfHart h k) (tableIn ws) _ q e
-
-  pub write-claim : (h : ℕ) → g ≡ ClaimI h → tableIn ws ≡ writeIdc (idcOf o) v (tableIn ws)
-  unfolding writeIdc
-  write-claim h q = idc-written o v g p (ClaimI h) (tableIn ws) _ q refl
-
-  pub write-reserved : g ≡ Reserved → tableIn ws ≡ writeIdc (idcOf o) v (tableIn ws)
-  unfolding writeIdc
-  write-reserved q = idc-written o v g p Reserved (tableIn ws) _ q refl
-
-  pub read-hart : (h : ℕ) (k : HartRegister) → g ≡ OfHart h k → v ≡ readHart h k (tableIn ws) → v ≡ readIdc (idcOf o) (tableIn ws)
-  unfolding readIdc
-  read-hart h k q e = idc-told o v g p (OfHart h k) (tableIn ws) q e
-
-  pub read-claim : (h : ℕ) → g ≡ ClaimI h → v ≡ claimValue h (tableIn ws) → v ≡ readIdc (idcOf o) (tableIn ws)
-  unfolding readIdc
-  read-claim h q e = idc-told o v g p (ClaimI h) (tableIn ws) q e
-
-  pub read-reserved : g ≡ Reserved → v ≡ 0 → v ≡ readIdc (idcOf o) (tableIn ws)
-  unfolding readIdc
-  read-reserved q e = idc-told o v g p Reserved (tableIn ws) q e
-
 module _ (ws : List ℕ) (o : ℕ) (g : Idc) (p : g ≡ idcOf o) where
-  pub left-hart : (h : ℕ) (k : HartRegister) → g ≡ OfHart h k → tableIn ws ≡ claimedBy (idcOf o) (tableIn ws)
-  unfolding claimedBy
-  left-hart h k q = idc-left o 0 g p (OfHart h k) (tableIn ws) _ q refl
-
-  pub left-claim : (h : ℕ) (out : List ℕ) → g ≡ ClaimI h → tableIn out ≡ claimed h (tableIn ws) → tableIn out ≡ claimedBy (idcOf o) (tableIn ws)
-  unfolding claimedBy
-  left-claim h out q e = idc-left o 0 g p (ClaimI h) (tableIn ws) _ q e
-
-  pub left-reserved : g ≡ Reserved → tableIn ws ≡ claimedBy (idcOf o) (tableIn ws)
-  unfolding claimedBy
-  left-reserved q = idc-left o 0 g p Reserved (tableIn ws) _ q refl
-
   module _ (xs ys : List ℕ) where
     -- a hart's register where the mode is message
     pub changed-hart : (h : ℕ) (k : HartRegister) → g ≡ OfHart h k → (directOf (deliveryIn ws) ≡ false → xs ≡ ys) → ignoresIdc (deliveryIn ws) (idcOf o) ≡ true → xs ≡ ys
@@ -468,12 +431,6 @@ module _ (ws : List ℕ) (o : ℕ) (g : Idc) (p : g ≡ idcOf o) where
     pub claimed-else : (h : ℕ) → g ≡ ClaimI h → (directOf (deliveryIn ws) ≡ false → xs ≡ ys) → claims (deliveryIn ws) (idcOf o) ≡ false → xs ≡ ys
     unfolding claims
     claimed-else h q f e = f (ap (claims (deliveryIn ws)) (sym q ∙ p) ∙ e)
-
-pub ruleset idc-writes = (write-hart, write-claim, write-reserved, changed-hart)
-
-pub ruleset idc-reads = (read-hart, read-claim, read-reserved)
-
-pub ruleset lefts = (left-hart, left-claim, left-reserved)
 
 -- by the span of the offset
 module _ (d : Delivery) (o : ℕ) (xs ys : List ℕ) where

@@ -1,6 +1,6 @@
 // The domain in words that the caller lends, changed in place and never copied. For `capi`, which looks at their number first; the domain by value asks for nothing.
 ghost use mathlib.Core.Path.{_≡_};
-ghost use Prim.Native.Nat.{ℕ, _<_, _≤_, _+_};
+ghost use Prim.Native.Nat.{_<_, _≤_, _+_};
 ghost use lib.ListN.{length as lengthOf, drop, set};
 ghost use mathlib.Core.Bool.{true, false};
 ghost use Rattle.word.specs.Word.{only};

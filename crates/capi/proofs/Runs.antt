@@ -1,14 +1,12 @@
 -- THE RUN CLAIM of the C functions: on words as a caller makes them they answer as the table of separate sources and harts does, in both delivery modes. Assumes nothing.
-use Prim.Native.Nat.{ℕ, zero, suc, _<_, _≤_}
+use Prim.Native.Nat.{ℕ, zero, suc, _≤_}
 use mathlib.Core.Bool.{Bool, true, false, not}
 use mathlib.Core.List.{List, [], _∷_}
-use mathlib.Core.Path.{_≡_, refl, sym, ap, ap₂, _∙_}
+use mathlib.Core.Path.{_≡_, refl, ap, ap₂, _∙_}
 use native.Mathlib.Omega.{arith}
 use borrow.Author.Tests.{le-ltb}
 use lib.Dec.{eqb}
 use lib.ListN.{getD, length, set}
-use Rattle.memory.specs.Choice.{pick}
-use Rattle.word.specs.Word.{inside}
 use Rattle.word.specs.Word.{digit}
 use Rattle.hart.specs.Hart.{hartRefusal}
 use Rattle.source.specs.declared.Delivery.{Delivery}

@@ -1,19 +1,18 @@
 -- The record and its keys, by the tests that the code makes. Assumes nothing.
 use Prim.Native.Nat.{ℕ, _+_, _*_, _/_, _%_, _<_, _≤_}
 use mathlib.Core.Bool.{Bool, true, false, _&&_}
-use mathlib.Core.Path.{_≡_, refl, sym, ap, _∙_}
+use mathlib.Core.Path.{_≡_, refl}
 use native.Mathlib.Nat.{div-one}
 use native.Mathlib.Omega.{arith}
 use borrow.Author.Tests.{eq-eqb, ne-eqb, lt-ltb, le-ltb}
-use lib.Dec.{eqb, ltb}
-use Rattle.memory.specs.Choice.{pick}
-use Rattle.memory.proofs.Choices.{yes-is, no-is}
+use lib.Dec.{eqb}
+use Rattle.memory.proofs.Choices.{no-is}
 use Rattle.word.specs.Word.{digit}
 use Rattle.register.specs.declared.HartRegister.{HartRegister}
 use Rattle.register.specs.declared.HartRegister.the-variants.{IDelivery, IForce, IThreshold, TopI}
 use Rattle.hart.specs.declared.Hart.{Hart}
-use Rattle.hart.specs.Hart.{resting, wroteOf, unforced, hartIndex, keyOf}
-use Rattle.hart.specs.Kept.{recordOf, keptOf, limitOf, betterOf}
+use Rattle.hart.specs.Hart.{resting, wroteOf, keyOf}
+use Rattle.hart.specs.Kept.{recordOf, keptOf, betterOf}
 
 -- ---- a record in a word
 pub record-is : (w : ℕ) → _≡_ {A = Hart} (record { delivery = eqb (w % 2) 1; force = eqb (w / 2 % 2) 1; threshold = w / 256 % 256 }) (recordOf w)

@@ -4,7 +4,6 @@ use mathlib.Core.Path.{_≡_, refl, sym, _∙_, subst}
 use Prim.Native.Nat.{ℕ, _<_, _≤_, _/_, _%_, _-_}
 use native.Mathlib.Omega.{arith}
 use borrow.Author.Tests.{eqb-true, eqb-false, ltb-true, ltb-false}
-use lib.Dec.{eqb, ltb}
 use Rattle.memory.specs.Choice.{pick}
 use Rattle.register.specs.declared.BitRegister.{BitRegister}
 use Rattle.register.specs.declared.Register.{Register}

@@ -3,9 +3,7 @@ use Prim.Native.Nat.{ℕ, _-_, _/_, _%_}
 use mathlib.Core.Bool.{true, false}
 use lib.Dec.{eqb, ltb}
 use Rattle.memory.specs.Choice.{pick}
-use Rattle.register.specs.declared.BitRegister.{BitRegister}
 use Rattle.register.specs.declared.BitRegister.the-variants.{SetIp, SetIpNum, InClrIp, ClrIpNum, SetIe, SetIeNum, ClrIe, ClrIeNum}
-use Rattle.register.specs.declared.HartRegister.{HartRegister}
 use Rattle.register.specs.declared.HartRegister.the-variants.{IDelivery, IForce, IThreshold, TopI}
 use Rattle.register.specs.declared.Idc.{Idc}
 use Rattle.register.specs.declared.Idc.the-variants.{OfHart, ClaimI, Reserved}

@@ -6,7 +6,6 @@ use Prim.Native.Nat.{ℕ, _+_, _*_, _/_, _%_}
 use borrow.Author.Tests.{eq-eqb, ne-eqb}
 use native.Mathlib.Nat.{div-one}
 use Rattle.memory.specs.Bits.{bit, bits}
-use Rattle.memory.specs.Choice.{pick}
 use Rattle.memory.proofs.Choices.{no-is}
 use Rattle.source.specs.declared.Delivery.{Delivery}
 use Rattle.source.specs.declared.Delivery.the-variants.{Direct, Message}

@@ -11,7 +11,7 @@ use Rattle.word.proofs.Bits.{is-inside, other, bit-and, bit-or, bit-xor, bit-wi
 use Rattle.source.specs.declared.Delivery.{Delivery}
 use Rattle.source.specs.declared.Delivery.the-variants.{Direct, Message}
 use Rattle.source.specs.declared.Source.{Source}
-use Rattle.source.specs.Source.{directOf, modeFrom, activeOf, rectified, Event, input, setip, clrip, pendingAfter, raised, lowered, allowed, sensed, inputOf}
+use Rattle.source.specs.Source.{directOf, modeFrom, activeOf, rectified, input, setip, clrip, pendingAfter, raised, lowered, allowed, sensed}
 use Rattle.sources.specs.declared.Sources.{Sources}
 use Rattle.sources.specs.Sources.{sourceOf, Acts, Inputs}
 

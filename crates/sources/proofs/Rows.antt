@@ -1,7 +1,7 @@
 -- One source taken out of the words and put back, and the lowest that waits. Assumes nothing.
-use mathlib.Core.Path.{_≡_, refl, sym, ap, _∙_}
+use mathlib.Core.Path.{_≡_, refl, ap, _∙_}
 use mathlib.Core.Bool.{Bool, true, false, _&&_}
-use Prim.Native.Nat.{ℕ, _<_, _≤_, _+_}
+use Prim.Native.Nat.{ℕ, _<_}
 use lib.Bits.{bitAnd}
 use lib.Dec.{eqb}
 use Rattle.memory.specs.Choice.{pick}

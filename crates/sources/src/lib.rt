@@ -1,7 +1,7 @@
 // The 63 sources as words of bits, targets apart: bit i of each word is source i's, so that a call acts on all sources of a mask at once.
 ghost use mathlib.Core.Path.{_≡_};
 ghost use mathlib.Core.Bool.{true, false};
-ghost use Prim.Native.Nat.{ℕ, _<_};
+ghost use Prim.Native.Nat.{_<_};
 ghost use Rattle.word.specs.Word.{marks, only};
 ghost use Rattle.source.specs.Source.{raised, lowered, allowed, sensed};
 ghost use Rattle.sources.specs.Sources.{sourceOf, Acts, Inputs, lined, firstWaiting};

@@ -2,11 +2,11 @@
 use mathlib.Core.Path.{_≡_, refl, sym, ap, ap₂, _∙_, subst}
 use mathlib.Core.Bool.{Bool, true, false, not, _&&_, _||_}
 use Prim.Native.Nat.{ℕ, zero, suc, _+_, _-_, _*_, _/_, _%_, _^_, _≤_, _<_, min, max}
-use native.Mathlib.Nat.{pow-suc, add-zero, add-suc, one-mul, mod-eq-of-lt, zero-mul, div-one, mul-one, mul-zero, zero-add, lt-of-lt-of-le}
+use native.Mathlib.Nat.{pow-suc, add-zero, one-mul, mod-eq-of-lt, div-one, zero-add, lt-of-lt-of-le}
 use native.Mathlib.Numerals.{one-add, add-one}
 use native.Mathlib.Omega.{arith}
-use borrow.Author.Tests.{eq-eqb, ne-eqb, eqb-true, eqb-false, le-leb, lt-leb, lt-ltb, le-ltb, ltb-true}
-use lib.Dec.{eqb, leb, ltb}
+use borrow.Author.Tests.{eq-eqb, ne-eqb, eqb-true, lt-ltb, ltb-true}
+use lib.Dec.{eqb, ltb}
 use native.Mathlib.Decide.{decLt}
 use lib.Arith.{mod-mul}
 use lib.Pow.{shr-shr, pow-lt, pow-pos, shl-exact, shl-shr, pow-mono}

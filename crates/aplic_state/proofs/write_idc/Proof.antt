@@ -1,4 +1,5 @@
-use Rattle.aplic_state.proofs.States.{idc-writes, beyond}
+use Rattle.aplic.proofs.Claims.{idc-writes}
+use Rattle.aplic_state.proofs.States.{changed-hart, beyond}
 use Rattle.register.proofs.Known.{knowing}
 use borrow.Author.Needs.{needs}
 use Rattle.aplic_state.proofs.write_idc.Statement.{statement}
@@ -18,7 +19,7 @@ enum-known-g c = search needs
 
 -- src/lib.rt:193:13
 write-hart-requires : tie.Need-write-hart-requires
-write-hart-requires c κs = search (idc-writes, beyond, knowing, needs)
+write-hart-requires c κs = search (idc-writes, changed-hart, beyond, knowing, needs)
 
 enum-told : tie.Need-enum-told
 enum-told c = search needs
@@ -32,15 +33,15 @@ same-length c = search needs
 
 -- src/lib.rt:184:1
 returns : tie.Need-returns
-returns c = search (idc-writes, beyond, knowing, needs)
+returns c = search (idc-writes, changed-hart, beyond, knowing, needs)
 
 -- src/lib.rt:184:1
 returns-2 : tie.Need-returns-2
-returns-2 c = search (idc-writes, beyond, knowing, needs)
+returns-2 c = search (idc-writes, changed-hart, beyond, knowing, needs)
 
 -- src/lib.rt:184:1
 returns-3 : tie.Need-returns-3
-returns-3 c = search (idc-writes, beyond, knowing, needs)
+returns-3 c = search (idc-writes, changed-hart, beyond, knowing, needs)
 
 pub write-idc-spec : {M : Type 1} → statement M
 write-idc-spec =
