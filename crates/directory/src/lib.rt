@@ -9,7 +9,7 @@ use paging::Scheme;
 use paging::Translation;
 ghost use mathlib.Core.Path.{_≡_};
 ghost use mathlib.Core.List.{[], _∷_};
-ghost use mathlib.Core.Bool.{_&&_, not};
+ghost use mathlib.Core.Bool.{false, _&&_, not};
 ghost use lib.Dec.{eqb, leb};
 ghost use lib.ListN.{length};
 ghost use Prim.Native.Nat.{_+_, _-_, _%_, _<_, _≤_, _^_};
@@ -17,6 +17,7 @@ ghost use Rattle.memory.specs.Bits.{bits, anySet};
 ghost use Rattle.memory.specs.Choice.{any};
 ghost use Rattle.memory.specs.Window.{doubleword, memory};
 ghost use Rattle.memory.specs.Walk.{run};
+ghost use Rattle.paging.specs.Scheme.{signedOf};
 ghost use Rattle.paging.specs.Stages.{direct};
 ghost use Rattle.paging.specs.Within.{Within};
 ghost use Rattle.directory.specs.Pointers.{loadFault, invalid as invalidOf, misconfigured as misconfiguredOf, pointerOf, pointers, tooWide};
@@ -417,7 +418,7 @@ fn first_scheme(mode: u64) -> Scheme
 }
 
 fn second_scheme(mode: u64) -> Scheme
-    ensures { λ r. ⌜ r ≡ secondScheme mode ⌝ }
+    ensures { λ r. ⌜ (r ≡ secondScheme mode) × (signedOf r ≡ false) ⌝ }
 {
     if mode == 10 {
         return Scheme::Sv57x4;
@@ -430,7 +431,7 @@ fn second_scheme(mode: u64) -> Scheme
 
 // What the caller needs of a context: the second stage and the message table.
 pub fn second_table(c: DeviceContext) -> PageTable
-    ensures { λ r. ⌜ (r ≡ secondTable (c .iohgatp)) × (r .root < 2 ^ 44) ⌝ }
+    ensures { λ r. ⌜ (r ≡ secondTable (c .iohgatp)) × (r .root < 2 ^ 44) × (signedOf (r .scheme) ≡ false) ⌝ }
 {
     PageTable {
         on: !bare(c.iohgatp),

@@ -290,7 +290,7 @@ fn guest(c: DeviceContext, x: Access, start: u64, window: &[u8], a: u64) -> Outc
         return told(message::message_of(page, c.mask, x, start, window, a));
     }
     let g = directory::second_table(c);
-    reached(paging::second_stage(g, Purpose::SecondStage, x, start, window, a))
+    reached(paging::last_stage(g, x, start, window, a))
 }
 
 fn translated_by(f: PageTable, c: DeviceContext) -> bool

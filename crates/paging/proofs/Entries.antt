@@ -5,7 +5,8 @@ use mathlib.Core.Path.{_≡_, refl, sym, ap, _∙_}
 use native.Mathlib.Omega.{arith}
 use native.Mathlib.Nat.{mod-lt}
 use lib.Dec.{eqb}
-use lib.Pow.{pow-mono}
+use lib.Pow.{pow-mono, pow-add, pow-pos}
+use lib.Arith.{mod-mul}
 use borrow.Author.Tests.{lt-ltb, le-ltb, eq-eqb, ne-eqb}
 use Rattle.memory.specs.Choice.{pick}
 use Rattle.memory.specs.Bits.{bit}
@@ -144,3 +145,38 @@ unfolding tableBits
 table-is e s r w x u a d hs hr hw hx hu ha hd = simp (hs, hr, hw, hx, hu, ha, hd)
 
 pub ruleset bit-ways = (sound-is, test-is, table-is)
+
+-- the same with the level's shift at hand, and the page by its address
+page-aligned : (page n : ℕ) → page * 4096 % 2 ^ (12 + 9 * n) ≡ page % 2 ^ (9 * n) * 4096
+page-aligned page n =
+    let e : 2 ^ (12 + 9 * n) ≡ 2 ^ (9 * n) * 4096 = ap (λ (k : ℕ). 2 ^ k) (omega arith) ∙ pow-add 2 (9 * n) 12 in
+    let d : page * 4096 / 4096 ≡ page = omega arith in
+    let r : page * 4096 % 4096 ≡ 0 = omega arith in
+    ap (λ (k : ℕ). page * 4096 % k) e ∙ mod-mul (page * 4096) {m = 2 ^ (9 * n)} {c = 4096} (pow-pos (9 * n)) (omega arith)
+    ∙ ap (λ (k : ℕ). k % 2 ^ (9 * n) * 4096 + page * 4096 % 4096) d
+    ∙ omega (arith, r)
+
+module _ (t : LeafTest) (a n e : ℕ) (v : Load) (hv : v ≡ Value e) (b : Bool) (hb : b ≡ tableBits e) (o : b ≡ false) (f : Bool) (hf : f ≡ leafBits e t)
+    (y : f ≡ true) (size shift : ℕ) (hs : size ≡ 2 ^ shift) (hn : shift ≡ 12 + 9 * n) where
+  at-size : e / 1024 % 17592186044416 * 4096 % size ≡ e / 1024 % 17592186044416 % 2 ^ (9 * n) * 4096
+  at-size = ap (λ (k : ℕ). e / 1024 % 17592186044416 * 4096 % k) (hs ∙ ap (λ (k : ℕ). 2 ^ k) hn) ∙ page-aligned (e / 1024 % 17592186044416) n
+
+  pub at-misaligned : (e / 1024 % 17592186044416 * 4096 % size ≡ 0 → ⊥) → Raw.Faulty ≡ rawLoad t a n v
+  at-misaligned r =
+      raw-misaligned t a n e v hv b hb o f hf y (2 ^ (9 * n)) (9 * n) refl refl (λ z. r (at-size ∙ omega (arith, z)))
+
+  pub at-arrives : (off : ℕ) → off ≡ a % 2 ^ (12 + 9 * n) → e / 1024 % 17592186044416 * 4096 % size ≡ 0 → Arrive (e / 1024 % 17592186044416 * 4096 + off) ≡ rawLoad t a n v
+  at-arrives off h r = raw-arrives t a n e v hv b hb o f hf y (2 ^ (9 * n)) (9 * n) refl refl off h (omega (arith, at-size, r))
+
+pub at-offset : (a n shift size : ℕ) → shift ≡ 12 + 9 * n → size ≡ 2 ^ shift → a % size ≡ a % 2 ^ (12 + 9 * n)
+at-offset a n shift size e k = ap (λ (j : ℕ). a % j) (k ∙ ap (λ (j : ℕ). 2 ^ j) e)
+
+pub at-small : (a n shift size : ℕ) → n < 5 → shift ≡ 12 + 9 * n → size ≡ 2 ^ shift → 0 < size → a % size < 2 ^ 48
+at-small a n shift size h e k p = offset-small a n size h (k ∙ ap (λ (j : ℕ). 2 ^ j) e) p
+
+pub shift-small : (n shift : ℕ) → n < 5 → shift ≡ 12 + 9 * n → shift < 64
+shift-small n shift h e = omega arith
+
+pub ruleset at-ways = (raw-violates, raw-points, raw-refuses, at-misaligned, at-arrives, shift-small)
+
+pub ruleset within-ways = (at-offset, at-small, shift-small)

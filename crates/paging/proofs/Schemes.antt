@@ -1,14 +1,15 @@
 -- The facts of a scheme, by the tests that the code makes: each over any scheme. Assumes nothing.
 use Prim.Native.Nat.{ℕ, _+_, _-_, _*_, _/_, _%_, _^_, _<_, _≤_}
 use mathlib.Core.Bool.{Bool, true, false, _&&_, _||_}
-use mathlib.Core.Path.{_≡_, refl, sym, ap, _∙_}
+use mathlib.Core.Path.{_≡_, refl, sym, ap, _∙_, subst}
 use native.Mathlib.Omega.{arith}
 use native.Mathlib.Nat.{mod-lt, div-eq-of-lt, div-lt-iff-lt-mul}
 use lib.Dec.{eqb, ltb}
-use lib.Pow.{pow-mono, pow-pos}
-use borrow.Author.Tests.{ltb-true, ltb-false, eq-eqb, ne-eqb}
+use lib.Pow.{pow-mono, pow-pos, pow-add}
+use borrow.Author.Tests.{ltb-true, ltb-false, eq-eqb, ne-eqb, lt-ltb, le-ltb}
 use Rattle.memory.specs.Choice.{pick}
 use Rattle.paging.specs.declared.Scheme.{Scheme}
+use Rattle.paging.specs.declared.Scheme.the-variants.{Sv39, Sv48, Sv57, Sv39x4, Sv48x4, Sv57x4}
 use Rattle.paging.specs.Scheme.{levelsOf, rootBitsOf, addressBitsOf, signedOf, signExtended, legalOf, indexOf}
 use Rattle.paging.specs.Tests.{freeBitsOf}
 
@@ -70,3 +71,68 @@ pub small-rem-512 : (v : ℕ) → v % 512 < 2048
 small-rem-512 v = omega arith
 
 pub ruleset index-ways = (index-root, index-below, small-rem, small-rem-512)
+
+-- below the root
+pub index-lower : (s : Scheme) (a n : ℕ) → n + 1 < levelsOf s → a / 2 ^ (12 + 9 * n) % 512 ≡ indexOf s a n
+index-lower s a n l = index-below s a n (levelsOf s) refl (λ e. omega (arith, e, l))
+
+pub index-shifted : (s : Scheme) (a n shift : ℕ) → shift ≡ 12 + 9 * n → n + 1 < levelsOf s → a / 2 ^ shift % 512 ≡ indexOf s a n
+index-shifted s a n shift e l = ap (λ (k : ℕ). a / 2 ^ k % 512) e ∙ index-lower s a n l
+
+pub shift-below : (n shift : ℕ) → n < 5 → shift ≡ 12 + 9 * n → shift < 64
+shift-below n shift h e = omega arith
+
+pub ruleset below-ways = (index-shifted, shift-below, small-rem-512)
+
+abbrev Yes : Bool → Type 0
+Yes true = Unit {0}
+Yes false = ⊥
+
+never : true ≡ false → ⊥
+never e = subst Yes e tt
+
+-- a guest's scheme: eleven bits at the root, and no sign
+guest-facts : (s : Scheme) → signedOf s ≡ false → (rootBitsOf s ≡ 11) × (addressBitsOf s ≡ 14 + 9 * levelsOf s) × (0 < levelsOf s)
+guest-facts Sv39 h = absurd (never h)
+guest-facts Sv48 h = absurd (never h)
+guest-facts Sv57 h = absurd (never h)
+guest-facts Sv39x4 h = (refl, refl, omega arith)
+guest-facts Sv48x4 h = (refl, refl, omega arith)
+guest-facts Sv57x4 h = (refl, refl, omega arith)
+
+module _ (s : Scheme) (a l i : ℕ) (h : signedOf s ≡ false) (hl : l ≡ levelsOf s) (hi : i ≡ a / 2 ^ (3 + 9 * l)) where
+  guest-legal-is : legalOf s a ≡ ltb a (2 ^ (14 + 9 * l))
+  unfolding legalOf
+  guest-legal-is = simp (h, guest-facts s h .1, hl)
+
+  guest-room : 2048 * 2 ^ (3 + 9 * l) ≡ 2 ^ (14 + 9 * l)
+  guest-room = sym (pow-add 2 11 (3 + 9 * l)) ∙ ap (λ (k : ℕ). 2 ^ k) (omega arith)
+
+  pub guest-legal : i ≤ 2047 → legalOf s a ≡ true
+  guest-legal e =
+      guest-legal-is ∙ lt-ltb a (2 ^ (14 + 9 * l)) (omega (arith, guest-room, div-lt-iff-lt-mul {x = a} {y = 2048} (pow-pos (3 + 9 * l)) .0 (omega (arith, hi))))
+
+  pub guest-illegal : 2047 < i → legalOf s a ≡ false
+  guest-illegal e = guest-legal-is ∙ go (ltb a (2 ^ (14 + 9 * l))) refl
+    where
+      go : (b : Bool) → ltb a (2 ^ (14 + 9 * l)) ≡ b → b ≡ false
+      go true t =
+          let low : a < 2048 * 2 ^ (3 + 9 * l) = omega (arith, guest-room, ltb-true a (2 ^ (14 + 9 * l)) t) in
+          absurd (omega (arith, hi, e, div-lt-iff-lt-mul {x = a} {y = 2048} (pow-pos (3 + 9 * l)) .1 low))
+      go false t = refl
+
+  pub guest-root-index : i ≤ 2047 → i ≡ indexOf s a (levelsOf s - 1)
+  guest-root-index e =
+      let p : 0 < levelsOf s = guest-facts s h .2 in
+      let n : 12 + 9 * (levelsOf s - 1) ≡ 3 + 9 * l = omega (arith, hl, p) in
+      let m : i % 2048 ≡ i = omega arith in
+      sym m ∙ ap (λ (k : ℕ). k % 2048) (hi ∙ ap (λ (k : ℕ). a / 2 ^ k) (sym n))
+      ∙ index-root s a (levelsOf s - 1) (levelsOf s) refl 11 2048 (omega (arith, p)) (sym (guest-facts s h .0)) refl
+
+pub guest-small : (i : ℕ) → i ≤ 2047 → i < 2048
+guest-small i h = omega arith
+
+pub root-top : (s : Scheme) (top l : ℕ) → top ≡ 3 + 9 * l → l ≡ levelsOf s → 0 < l → top ≡ 12 + 9 * (levelsOf s - 1)
+root-top s top l h e p = h ∙ omega (arith, e, p)
+
+pub ruleset guest-ways = (root-top, guest-legal, guest-illegal, guest-root-index, guest-small)

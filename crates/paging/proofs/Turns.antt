@@ -1,5 +1,5 @@
 -- The walk over levels, by the ways through a level and a turn: once for any scheme and any way to reach an entry. Assumes nothing.
-use Prim.Native.Nat.{ℕ, suc, _+_, _-_, _*_, _<_, _≤_, _^_}
+use Prim.Native.Nat.{ℕ, suc, _+_, _-_, _*_, _/_, _%_, _<_, _≤_, _^_}
 use mathlib.Core.Bool.{Bool, true, false, not}
 use mathlib.Core.Path.{_≡_, refl, sym, ap, _∙_, subst}
 use native.Mathlib.Omega.{arith}
@@ -23,7 +23,7 @@ use Rattle.paging.specs.declared.Translation.{Translation}
 use Rattle.paging.specs.declared.Translation.the-variants.{To, Fault}
 use Rattle.paging.specs.declared.Step.{Step}
 use Rattle.paging.specs.declared.Step.the-variants.{Stop, Next}
-use Rattle.paging.specs.Scheme.{levelsOf, legalOf, indexOf}
+use Rattle.paging.specs.Scheme.{levelsOf, signedOf, legalOf, indexOf}
 use Rattle.paging.specs.Levels.{faulted, onLoad, onPlace, onStep, entryAt, levelOf, levels, walkOf}
 use Rattle.paging.specs.Stages.{direct, guestLookup, secondStageOf, entryReach, deviceLookup, firstStageOf}
 use Rattle.paging.specs.Within.{Near, Within, Small}
@@ -33,6 +33,7 @@ use Rattle.paging.specs.declared.Raw.the-variants.{Arrive, Unread}
 use Rattle.paging.specs.Purpose.{askedOf, pageFaultOf, accessFaultOf}
 use Rattle.paging.specs.Tests.{testOf, rawLoad, toStep, toldOf, faultyEnd, unreadEnd, codeOf, toldBy, onRaw, rawLevels, rawWalk, Tight}
 use Rattle.paging.proofs.Tested.{tested, raw-whole, coded}
+use Rattle.paging.proofs.Schemes.{guest-illegal, root-top}
 
 one-less : (left : ℕ) → 0 < left → suc (left - 1) ≡ left
 one-less left p = omega arith
@@ -53,6 +54,18 @@ module _ (m : ℕ → Load) (s : Scheme) (q : Lookup) (reach : ℕ → Walk Tran
   loaded : (p : ℕ) (v : Load) (x : Step) → t ≡ To p → v ≡ m p → x ≡ onLoad q n v → x ≡ run m (levelOf s q reach n table)
   loaded p v x e h k = placed x (at m (onPlace q n) e (loads m p (λ w. done (onLoad q n w)) h k))
 
+-- a walk of an address that isn't legal
+module _ (m : ℕ → Load) (s : Scheme) (t : LeafTest) (a root : ℕ) (l : legalOf s a ≡ false) where
+  barred : Raw.Faulty ≡ run m (rawWalk s t a root)
+  unfolding rawWalk
+  barred = ap (λ (b : Bool). run m (pick b (rawLevels s t a (levelsOf s) root) (done Raw.Faulty))) (sym l)
+
+  pub code-barred : faultyEnd ≡ codeOf (run m (rawWalk s t a root))
+  code-barred = ap codeOf barred
+
+  pub end-barred : Tight (run m (rawWalk s t a root))
+  end-barred = subst Tight barred tt
+
 -- the second stage's walk, by the number of its end
 module _ (m : ℕ → Load) (g : PageTable) (p : Purpose) (x : Access) (a : ℕ) (h : g .on ≡ true) where
   pub second-walks : (t : Translation) (k : Access) (l : LeafTest) (n : ℕ) (r : Raw) → k ≡ askedOf p x → l ≡ testOf k User
@@ -63,6 +76,11 @@ module _ (m : ℕ → Load) (g : PageTable) (p : Purpose) (x : Access) (a : ℕ)
       ∙ ap (toldOf p x) (hr ∙ ap (λ (y : LeafTest). run m (rawWalk (g .scheme) y a (g .root))) (hl ∙ ap (λ (y : Access). testOf y User) hk))
       ∙ raw-whole m (g .scheme) (guestLookup p x a) (g .root)
       ∙ simp h
+
+  pub second-illegal : (t : Translation) (n : ℕ) → legalOf (g .scheme) a ≡ false → n ≡ faultyEnd → t ≡ toldBy p x n → t ≡ run m (secondStageOf g p x a)
+  second-illegal t n l hn e =
+      second-walks t (askedOf p x) (testOf (askedOf p x) User) n (run m (rawWalk (g .scheme) (testOf (askedOf p x) User) a (g .root))) refl refl refl
+      (end-barred m (g .scheme) (testOf (askedOf p x) User) a (g .root) l) (hn ∙ code-barred m (g .scheme) (testOf (askedOf p x) User) a (g .root) l) e
 
 told-stop : (p : Purpose) (x : Access) (r : ℕ) → faultyEnd ≤ r → (f : FaultInfo) × (toldBy p x r ≡ Fault f)
 told-stop p x r l = go (eqb r faultyEnd) refl
@@ -88,8 +106,21 @@ module _ (m : ℕ → Load) (s : Scheme) (q : Lookup) (g : PageTable) (n table i
       loaded m s q (entryReach g q) n table i (To place) hi (reached (To place) (simp (lt-ltb place faultyEnd near))) place v x refl hv
       (hx ∙ ap (toStep (q .purpose) (q .access)) (hr ∙ ap (λ (y : LeafTest). rawLoad y (q .address) n v) ht) ∙ tested q n v)
 
+-- a level whose entry's guest address isn't legal
+pub level-barred : (m : ℕ → Load) (s : Scheme) (q : Lookup) (g : PageTable) (n table i l j : ℕ) (t : Translation) → g .on ≡ true → i ≡ indexOf s (q .address) n
+    → signedOf (g .scheme) ≡ false → l ≡ levelsOf (g .scheme) → j ≡ (table * 4096 + 8 * i) / 2 ^ (3 + 9 * l) → 2047 < j
+    → t ≡ toldBy FirstStageEntry (q .access) faultyEnd → Stop t ≡ run m (levelOf s q (entryReach g q) n table)
+level-barred m s q g n table i l j t h hi hs hl hj far e =
+    let b : legalOf (g .scheme) (table * 4096 + 8 * i) ≡ false = guest-illegal (g .scheme) (table * 4096 + 8 * i) l j hs hl hj far in
+    level-stops m s q g n table i faultyEnd (run m (rawWalk (g .scheme) (testOf Read User) (table * 4096 + 8 * i) (g .root))) (testOf Read User) h refl hi refl
+    (end-barred m (g .scheme) (testOf Read User) (table * 4096 + 8 * i) (g .root) b)
+    (code-barred m (g .scheme) (testOf Read User) (table * 4096 + 8 * i) (g .root) b) t (omega arith) e
+
 pub stop-small : (p : Purpose) (x : Access) (r : ℕ) (t : Translation) → faultyEnd ≤ r → t ≡ toldBy p x r → Near t
 stop-small p x r t l e = let f = told-stop p x r l in subst Near (sym (e ∙ f .1)) tt
+
+pub stop-barred : (p : Purpose) (x : Access) (r : ℕ) (t : Translation) → r ≡ faultyEnd → t ≡ toldBy p x r → Near t
+stop-barred p x r t k e = stop-small p x r t (omega (arith, k)) e
 
 small-of : (p : Purpose) (x : Access) (r : Raw) → Tight r → Small (toStep p x r)
 small-of p x (Arrive a) h = h
@@ -100,7 +131,7 @@ small-of p x Unread h = tt
 pub step-small : (p : Purpose) (x : Access) (r : Raw) (t : Step) → t ≡ toStep p x r → Tight r → Small t
 step-small p x r t e h = subst Small (sym e) (small-of p x r h)
 
-pub ruleset level-ways = (level-stops, level-steps, stop-small, step-small)
+pub ruleset level-ways = (level-stops, level-barred, level-steps, stop-small, stop-barred, step-small)
 
 -- a turn of the walk of entries that lie where their addresses say
 module _ (m : ℕ → Load) (s : Scheme) (t : LeafTest) (a left table i : ℕ) (v : Load) (r w : Raw)
@@ -166,6 +197,73 @@ tight-next r k e h = subst Tight e h
 
 pub ruleset raw-ways = (raw-goes, code-arrived, code-faulted, code-unread, code-ends, end-arrived, end-faulted, end-unread, end-ends, raw-starts, code-illegal, end-illegal, tight-next)
 
+-- a turn at level n, with the entry's index at hand
+module _ (m : ℕ → Load) (s : Scheme) (t : LeafTest) (a n table i at : ℕ) (v : Load) (r w : Raw)
+    (hi : i ≡ indexOf s a n) (ha : at ≡ table * 4096 + 8 * i) (hv : v ≡ m at) (hr : r ≡ rawLoad t a n v)
+    (hw : run m (rawLevels s t a (suc n) table) ≡ w) where
+  deep-turned : (k : Raw) → r ≡ k → run m (onRaw (rawLevels s t a n) k) ≡ w
+  unfolding rawLevels
+  deep-turned k e =
+      ap (λ (y : Raw). run m (onRaw (rawLevels s t a n) y)) (sym e ∙ hr ∙ ap (rawLoad t a n) (hv ∙ ap m ha ∙ ap (λ (j : ℕ). m (table * 4096 + 8 * j)) hi))
+      ∙ hw
+
+  pub deep-goes : (k shift : ℕ) → r ≡ Raw.Next k → shift ≡ 12 + 9 * n → 21 ≤ shift → run m (rawLevels s t a (suc (n - 1)) k) ≡ w
+  deep-goes k shift e hs z = ap (λ (j : ℕ). run m (rawLevels s t a j k)) (one-less n (omega arith)) ∙ deep-turned (Raw.Next k) e
+
+  pub deep-last : (k : ℕ) → r ≡ Raw.Next k → n ≡ 0 → Raw.Faulty ≡ w
+  unfolding rawLevels
+  deep-last k e z = sym (ap (λ (j : ℕ). run m (rawLevels s t a j k)) z) ∙ deep-turned (Raw.Next k) e
+
+  pub deep-code-last : (k shift : ℕ) → r ≡ Raw.Next k → shift ≡ 12 + 9 * n → shift < 21 → faultyEnd ≡ codeOf w
+  deep-code-last k shift e hs z = ap codeOf (deep-last k e (omega arith))
+
+  pub deep-end-last : (k shift : ℕ) → r ≡ Raw.Next k → shift ≡ 12 + 9 * n → shift < 21 → Tight w
+  deep-end-last k shift e hs z = subst Tight (deep-last k e (omega arith)) tt
+
+  pub deep-code-arrived : (k : ℕ) → r ≡ Arrive k → k ≡ codeOf w
+  deep-code-arrived k e = ap codeOf (deep-turned (Arrive k) e)
+
+  pub deep-code-faulted : r ≡ Raw.Faulty → faultyEnd ≡ codeOf w
+  deep-code-faulted e = ap codeOf (deep-turned Raw.Faulty e)
+
+  pub deep-code-unread : r ≡ Unread → unreadEnd ≡ codeOf w
+  deep-code-unread e = ap codeOf (deep-turned Unread e)
+
+  pub deep-end-arrived : (k : ℕ) → r ≡ Arrive k → Tight r → Tight w
+  deep-end-arrived k e h = subst Tight (e ∙ deep-turned (Arrive k) e) h
+
+  pub deep-end-faulted : r ≡ Raw.Faulty → Tight w
+  deep-end-faulted e = subst Tight (deep-turned Raw.Faulty e) tt
+
+  pub deep-end-unread : r ≡ Unread → Tight w
+  deep-end-unread e = subst Tight (deep-turned Unread e) tt
+
+-- before the loop
+pub deep-starts : (m : ℕ → Load) (s : Scheme) (t : LeafTest) (a root l : ℕ) → legalOf s a ≡ true → l ≡ levelsOf s → 0 < l
+    → run m (rawLevels s t a (suc (l - 1)) root) ≡ run m (rawWalk s t a root)
+deep-starts m s t a root l h e p =
+    ap (λ (k : ℕ). run m (rawLevels s t a k root)) (one-less l p) ∙ raw-starts m s t a root true (sym h) l refl e
+
+pub deep-index : (s : Scheme) (a i l : ℕ) → i ≡ indexOf s a (levelsOf s - 1) → l ≡ levelsOf s → i ≡ indexOf s a (l - 1)
+deep-index s a i l h e = h ∙ ap (λ (k : ℕ). indexOf s a (k - 1)) (sym e)
+
+pub deep-less : (n k : ℕ) → n < k → n - 1 < k
+deep-less n k h = omega arith
+
+pub deep-some : (n shift : ℕ) → shift ≡ 12 + 9 * n → 21 ≤ shift → 1 ≤ n
+deep-some n shift e h = omega arith
+
+pub deep-shift : (n shift : ℕ) → shift ≡ 12 + 9 * n → 21 ≤ shift → shift - 9 ≡ 12 + 9 * (n - 1)
+deep-shift n shift e h = omega arith
+
+pub deep-above : (n shift l : ℕ) → shift ≡ 12 + 9 * n → 21 ≤ shift → n < l → n - 1 + 1 < l
+deep-above n shift l e h k = omega arith
+
+pub deep-top : (s : Scheme) (top l : ℕ) → top ≡ 12 + 9 * (levelsOf s - 1) → l ≡ levelsOf s → top ≡ 12 + 9 * (l - 1)
+deep-top s top l h e = h ∙ ap (λ (k : ℕ). 12 + 9 * (k - 1)) (sym e)
+
+pub ruleset deep-ways = (deep-top, deep-some, deep-shift, deep-above, deep-less, deep-goes, deep-code-last, deep-end-last, deep-code-arrived, deep-code-faulted, deep-code-unread, deep-end-arrived, deep-end-faulted, deep-end-unread, deep-starts, deep-index, tight-next)
+
 -- a turn of the loop: `left` levels are left before it, and w is the answer of the whole walk
 module _ (m : ℕ → Load) (s : Scheme) (q : Lookup) (reach : ℕ → Walk Translation) (left table : ℕ) (t : Step) (w : Translation)
     (p : 0 < left) (ht : t ≡ run m (levelOf s q reach (left - 1) table)) (hw : run m (levels s q reach left table) ≡ w) where
@@ -218,7 +316,10 @@ told-within a p x n r t e k h = subst (Within a) (sym (e ∙ ap (toldBy p x) k �
 pub bare-within : (a : ℕ) → a ≤ a + 2 ^ 57
 bare-within a = omega arith
 
-pub ruleset second-ways = (second-bare, second-walks, told-within, bare-within)
+pub told-barred : (a : ℕ) (p : Purpose) (x : Access) (n : ℕ) (t : Translation) → n ≡ faultyEnd → t ≡ toldBy p x n → Within a t
+told-barred a p x n t k e = told-within a p x n Raw.Faulty t e k tt
+
+pub ruleset second-ways = (second-bare, second-walks, second-illegal, told-within, told-barred, bare-within)
 
 bare-reach : (g : PageTable) (q : Lookup) → g .on ≡ false → entryReach g q ≡ direct
 unfolding secondStageOf
@@ -251,4 +352,17 @@ module _ (m : ℕ → Load) (f g : PageTable) (x : Access) (pages : Pages) (a : 
       ∙ ap (λ (reach : ℕ → Walk Translation). run m (walkOf (f .scheme) (deviceLookup x pages a) reach (f .root))) (sym (bare-reach g (deviceLookup x pages a) b))
       ∙ simp h
 
-pub ruleset first-ways = (first-bare, first-illegal, first-walks, first-direct)
+  pub first-barred : (t : Translation) (b : Bool) (n : ℕ) → f .on ≡ true → g .on ≡ false → b ≡ legalOf (f .scheme) a → not b ≡ true → n ≡ faultyEnd
+      → t ≡ toldBy FirstStage x n → t ≡ run m (firstStageOf f g x pages a)
+  first-barred t b n h z hb y hn k =
+      let l : legalOf (f .scheme) a ≡ false = sym hb ∙ not-true b y in
+      first-direct t (testOf x pages) n (run m (rawWalk (f .scheme) (testOf x pages) a (f .root))) h z refl refl
+      (end-barred m (f .scheme) (testOf x pages) a (f .root) l) (hn ∙ code-barred m (f .scheme) (testOf x pages) a (f .root) l) k
+
+pub legal-so : (s : Scheme) (a : ℕ) (b : Bool) → b ≡ legalOf s a → not b ≡ false → legalOf s a ≡ true
+legal-so s a b h y = sym h ∙ not-false b y
+
+pub root-index : (s : Scheme) (a i l : ℕ) → i ≡ indexOf s a (l - 1) → l ≡ levelsOf s → i ≡ indexOf s a (levelsOf s - 1)
+root-index s a i l h e = h ∙ ap (λ (k : ℕ). indexOf s a (k - 1)) e
+
+pub ruleset first-ways = (root-top, first-bare, first-illegal, first-walks, first-direct, first-barred, legal-so, root-index)

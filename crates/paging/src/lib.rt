@@ -4,8 +4,8 @@ use causes::FaultInfo;
 use causes::Stage;
 use memory::Load;
 ghost use mathlib.Core.Path.{_≡_};
-ghost use mathlib.Core.Bool.{true};
-ghost use Prim.Native.Nat.{_*_, _%_, _<_, _^_};
+ghost use mathlib.Core.Bool.{true, false};
+ghost use Prim.Native.Nat.{_+_, _-_, _*_, _/_, _%_, _<_, _^_};
 ghost use Rattle.memory.specs.Window.{memory};
 ghost use Rattle.memory.specs.Walk.{run};
 ghost use Rattle.causes.specs.Causes.{faultAt};
@@ -116,7 +116,7 @@ impl Scheme {
     pub const INDEX_BITS: u64 = 9;
 
     pub fn levels(self) -> u64
-        ensures { λ r. ⌜ (r ≡ levelsOf self) × (r < 6) ⌝ }
+        ensures { λ r. ⌜ (r ≡ levelsOf self) × (r < 6) × (0 < r) ⌝ }
     {
         match self {
             Scheme::Sv39 => 3,
@@ -201,6 +201,14 @@ impl Scheme {
             return v % power(self.root_bits());
         }
         v % 512
+    }
+
+    // The same below the root, where all schemes are alike.
+    fn below(self, a: u64, n: u64, shift: u64) -> u64
+        requires { ⌜ (n < 5) × (n + 1 < levelsOf self) × (shift ≡ 12 + 9 * n) ⌝ }
+        ensures { λ r. ⌜ (r ≡ indexOf self a n) × (r < 2048) ⌝ }
+    {
+        (a >> shift) % 512
     }
 }
 
@@ -391,27 +399,78 @@ fn read_entry(t: LeafTest, a: u64, n: u64, v: Load) -> Raw
     Raw::Faulty
 }
 
+// Where an entry of a table lies.
+fn entry_at(table: u64, i: u64) -> u64
+    requires { ⌜ (table < 2 ^ 44) × (i < 2048) ⌝ }
+    ensures { λ r. ⌜ r ≡ table * 4096 + 8 * i ⌝ }
+{
+    table * 4096 + 8 * i
+}
+
+// An address's offset in a page of level n, by the level's shift.
+fn within(a: u64, n: u64, shift: u64) -> u64
+    requires { ⌜ (n < 5) × (shift ≡ 12 + 9 * n) ⌝ }
+    ensures { λ r. ⌜ (r ≡ a % 2 ^ pageBitsOf n) × (r < 2 ^ 48) ⌝ }
+{
+    a % power(shift)
+}
+
+// The same with the level's shift at hand.
+fn read_at(t: LeafTest, a: u64, n: u64, shift: u64, v: Load) -> Raw
+    requires { ⌜ (n < 5) × (shift ≡ 12 + 9 * n) ⌝ }
+    ensures { λ r. ⌜ (r ≡ rawLoad t a n v) × Tight r ⌝ }
+{
+    let Load::Value(e) = v else {
+        return Raw::Unread;
+    };
+    let page = e / 1024 % 17592186044416;
+    if is_table(e) {
+        return Raw::Next(page);
+    }
+    if is_leaf(e, t) {
+        if page * 4096 % power(shift) == 0 {
+            return Raw::Arrive(page * 4096 + within(a, n, shift));
+        }
+        return Raw::Faulty;
+    }
+    Raw::Faulty
+}
+
 // Ends of a walk that no address is.
 const FAULTY: u64 = 9223372036854775808;
 
 const UNREAD: u64 = 9223372036854775809;
 
-// The walk of a table whose entries lie where their addresses say, the address looked at first. Its end is one number, so that it comes back in a register; causes come after it.
-fn descend(s: Scheme, t: LeafTest, a: u64, start: u64, window: &[u8], root: u64) -> u64
-    requires { ⌜ root < 2 ^ 44 ⌝ }
+// The walk of a table whose entries lie where their addresses say. Its end is one number, so that it comes back in a register; causes come after it. The scheme is for the promise alone, and the compiler drops it.
+fn descend(
+    s: Scheme,
+    t: LeafTest,
+    a: u64,
+    top: u64,
+    index: u64,
+    start: u64,
+    window: &[u8],
+    root: u64,
+) -> u64
+    requires { ⌜ (root < 2 ^ 44) × (legalOf s a ≡ true) × (top ≡ 12 + 9 * (levelsOf s - 1)) × (index ≡ indexOf s a (levelsOf s - 1)) × (index < 2048) ⌝ }
     ensures { λ r. ⌜ (r ≡ codeOf (run (memory start (now (window .entry))) (rawWalk s t a root))) × Tight (run (memory start (now (window .entry))) (rawWalk s t a root)) ⌝ }
 {
-    if !s.legal(a) {
-        return FAULTY;
-    }
-    let mut left = s.levels();
+    let mut n = s.levels() - 1;
+    let mut shift = top;
     let mut table = root;
-    while 0 < left {
-        left -= 1;
-        let at = table * 4096 + 8 * s.index(a, left);
-        match read_entry(t, a, left, memory::load64(start, window, at)) {
+    let mut i = index;
+    let mut at = entry_at(root, index);
+    loop {
+        match read_at(t, a, n, shift, memory::load64(start, window, at)) {
             Raw::Next(next) => {
+                if shift < 21 {
+                    return FAULTY;
+                }
+                n -= 1;
+                shift -= 9;
                 table = next;
+                i = s.below(a, n, shift);
+                at = entry_at(next, i);
             }
             Raw::Arrive(p) => {
                 return p;
@@ -424,7 +483,6 @@ fn descend(s: Scheme, t: LeafTest, a: u64, start: u64, window: &[u8], root: u64)
             }
         }
     }
-    FAULTY
 }
 
 // The end of a walk, with its cause.
@@ -452,6 +510,22 @@ fn stepped(p: Purpose, x: Access, r: Raw) -> Step
     }
 }
 
+// The lowest address bit that a root looks at.
+fn top_of(levels: u64) -> u64
+    requires { ⌜ levels < 6 ⌝ }
+    ensures { λ r. ⌜ r ≡ 3 + 9 * levels ⌝ }
+{
+    3 + Scheme::INDEX_BITS * levels
+}
+
+// The index of a guest's root: all that a legal address has above it.
+fn guest_index(a: u64, levels: u64) -> u64
+    requires { ⌜ levels < 6 ⌝ }
+    ensures { λ r. ⌜ r ≡ a / 2 ^ (3 + 9 * levels) ⌝ }
+{
+    a >> (3 + Scheme::INDEX_BITS * levels)
+}
+
 // A guest address, by the second stage.
 pub fn second_stage(
     g: PageTable,
@@ -461,20 +535,54 @@ pub fn second_stage(
     window: &[u8],
     a: u64,
 ) -> Translation
-    requires { ⌜ g .root < 2 ^ 44 ⌝ }
+    requires { ⌜ (g .root < 2 ^ 44) × (signedOf (g .scheme) ≡ false) ⌝ }
     ensures { λ r. ⌜ (r ≡ run (memory start (now (window .entry))) (secondStageOf g p x a)) × Within a r ⌝ }
 {
     if g.on {
         let s = g.scheme;
+        let levels = s.levels();
+        let index = guest_index(a, levels);
+        if 2047 < index {
+            return told(p, x, FAULTY);
+        }
         let r = descend(
             s,
             leaf_test(asked(p, x), Pages::User),
             a,
+            top_of(levels),
+            index,
             start,
             window,
             g.root,
         );
         return told(p, x, r);
+    }
+    Translation::To(a)
+}
+
+// The guest address that a request leads to, by the second stage: `second_stage` for that purpose, called once, so that it is inlined.
+pub fn last_stage(g: PageTable, x: Access, start: u64, window: &[u8], a: u64) -> Translation
+    requires { ⌜ (g .root < 2 ^ 44) × (signedOf (g .scheme) ≡ false) ⌝ }
+    ensures { λ r. ⌜ r ≡ run (memory start (now (window .entry))) (secondStageOf g Purpose.SecondStage x a) ⌝ }
+{
+    if g.on {
+        let s = g.scheme;
+        let levels = s.levels();
+        let index = guest_index(a, levels);
+        if 2047 < index {
+            return told(Purpose::SecondStage, x, FAULTY);
+        }
+        let r = descend(
+            s,
+            leaf_test(x, Pages::User),
+            a,
+            top_of(levels),
+            index,
+            start,
+            window,
+            g.root,
+        );
+        return told(Purpose::SecondStage, x, r);
     }
     Translation::To(a)
 }
@@ -490,16 +598,23 @@ fn guest_level(
     n: u64,
     table: u64,
 ) -> Step
-    requires { ⌜ (n < 5) × (table < 2 ^ 44) × (g .on ≡ true) × (g .root < 2 ^ 44) × (t ≡ testOf (askedOf (q .purpose) (q .access)) (q .pages)) ⌝ }
+    requires { ⌜ (n < 5) × (table < 2 ^ 44) × (g .on ≡ true) × (g .root < 2 ^ 44) × (signedOf (g .scheme) ≡ false) × (t ≡ testOf (askedOf (q .purpose) (q .access)) (q .pages)) ⌝ }
     ensures { λ r. ⌜ (r ≡ run (memory start (now (window .entry))) (levelOf s q (entryReach g q) n table)) × Small r ⌝ }
 {
     let x = q.access;
     let at = table * 4096 + 8 * s.index(q.address, n);
     let guest = g.scheme;
+    let levels = guest.levels();
+    let index = guest_index(at, levels);
+    if 2047 < index {
+        return Step::Stop(told(Purpose::FirstStageEntry, x, FAULTY));
+    }
     let place = descend(
         guest,
         leaf_test(Access::Read, Pages::User),
         at,
+        top_of(levels),
+        index,
         start,
         window,
         g.root,
@@ -523,7 +638,7 @@ fn guest_descend(
     window: &[u8],
     root: u64,
 ) -> Translation
-    requires { ⌜ (root < 2 ^ 44) × (g .on ≡ true) × (g .root < 2 ^ 44) ⌝ }
+    requires { ⌜ (root < 2 ^ 44) × (g .on ≡ true) × (g .root < 2 ^ 44) × (signedOf (g .scheme) ≡ false) ⌝ }
     ensures { λ r. ⌜ r ≡ run (memory start (now (window .entry))) (levelsFrom s q (entryReach g q) (levelsOf s) root) ⌝ }
 {
     let o = q.purpose;
@@ -556,7 +671,7 @@ pub fn first_stage(
     window: &[u8],
     a: u64,
 ) -> Translation
-    requires { ⌜ (f .root < 2 ^ 44) × (g .root < 2 ^ 44) ⌝ }
+    requires { ⌜ (f .root < 2 ^ 44) × (g .root < 2 ^ 44) × (signedOf (g .scheme) ≡ false) ⌝ }
     ensures { λ r. ⌜ r ≡ run (memory start (now (window .entry))) (firstStageOf f g x pages a) ⌝ }
 {
     if f.on {
@@ -573,7 +688,21 @@ pub fn first_stage(
             }
             return faulted(q);
         }
-        let r = descend(s, leaf_test(x, pages), a, start, window, f.root);
+        if !s.legal(a) {
+            return told(Purpose::FirstStage, x, FAULTY);
+        }
+        let levels = s.levels();
+        let index = s.index(a, levels - 1);
+        let r = descend(
+            s,
+            leaf_test(x, pages),
+            a,
+            top_of(levels),
+            index,
+            start,
+            window,
+            f.root,
+        );
         return told(Purpose::FirstStage, x, r);
     }
     Translation::To(a)

@@ -16,7 +16,7 @@ page-requires : tie.Need-page-requires
 page-requires c κs = search needs
 
 returns : tie.Need-returns
-returns c = (cc, search needs)
+returns c = (cc, search needs, search needs)
 
 pub second-table-spec : {M : Type 1} → statement M
 second-table-spec = tie.close (tie.spec bare-requires mode-requires second-scheme-requires page-requires returns)

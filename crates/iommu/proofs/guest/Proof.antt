@@ -22,8 +22,8 @@ returns c = search (guest-ways, needs)
 second-table-requires : tie.Need-second-table-requires
 second-table-requires c κs = search needs
 
-second-stage-requires : tie.Need-second-stage-requires
-second-stage-requires c κs = search needs
+last-stage-requires : tie.Need-last-stage-requires
+last-stage-requires c κs = search needs
 
 reached-requires : tie.Need-reached-requires
 reached-requires c κs = search needs
@@ -41,6 +41,6 @@ guest-spec =
     told-requires
     returns
     second-table-requires
-    second-stage-requires
+    last-stage-requires
     reached-requires
     returns-2)
