@@ -4,64 +4,7 @@ use Rattle.aplic_state.proofs.States.{forward-sends, forward-goes, forw
 use borrow.Author.Needs.{needs}
 use Rattle.aplic_state.proofs.forward.Statement.{statement}
 use Rattle.aplic_state.proofs.forward.Tie as tie
-use Rattle.aplic_state.proofs.forward.Reads as reads
-use Rattle.aplic_state.proofs.forward.Lts as lts
-use Rattle.aplic.proofs.msi_of.Reads as msi-of-reads
-use Rattle.aplic_state.proofs.delivery_in.Reads as delivery-in-reads
-use Rattle.aplic_state.proofs.is_enabled.Reads as is-enabled-reads
-use Rattle.aplic_state.proofs.put_sources.Reads as put-sources-reads
-use Rattle.aplic_state.proofs.sources_in.Reads as sources-in-reads
-use Rattle.aplic_state.proofs.target_in.Reads as target-in-reads
-use Rattle.source.proofs.is_direct.Reads as is-direct-reads
-use Rattle.sources.proofs.Sources.first.Reads as first-reads
-use Rattle.sources.proofs.Sources.lower.Reads as lower-reads
-use Rattle.word.proofs.one.Reads as one-reads
 
--- src/lib.rt:273:9
-delivery-in-requires : tie.Need-delivery-in-requires
-delivery-in-requires c κs = search needs
-
--- src/lib.rt:274:9
-sources-in-requires : tie.Need-sources-in-requires
-sources-in-requires c κs = search needs
-
--- src/lib.rt:275:9
-first-requires : tie.Need-first-requires
-first-requires c κs = search needs
-
--- src/lib.rt:276:8
-is-enabled-requires : tie.Need-is-enabled-requires
-is-enabled-requires c κs = search needs
-
--- src/lib.rt:276:29
-is-direct-requires : tie.Need-is-direct-requires
-is-direct-requires c κs = search needs
-
--- src/lib.rt:278:17
-target-in-requires : tie.Need-target-in-requires
-target-in-requires c κs = search needs
-
--- src/lib.rt:279:43
-one-requires : tie.Need-one-requires
-one-requires c κs = search needs
-
--- src/lib.rt:279:32
-lower-requires : tie.Need-lower-requires
-lower-requires c κs = search needs
-
--- src/lib.rt:279:13
-put-sources-requires : tie.Need-put-sources-requires
-put-sources-requires c κs = search needs
-
--- src/lib.rt:280:36
-msi-of-requires : tie.Need-msi-of-requires
-msi-of-requires c κs = search needs
-
--- src/lib.rt:280:13
-same-length : tie.Need-same-length
-same-length c = search needs
-
--- src/lib.rt:280:13
 returns : tie.Need-returns
 returns c =
     let start = c .before .before .before .before .before .before .before .before .before .before .before .before .before .before .before .before .before .before .before .before in
@@ -80,21 +23,11 @@ returns c =
       ),
     )
 
--- src/lib.rt:266:1
-same-length-2 : tie.Need-same-length-2
-same-length-2 c = search needs
-
--- src/lib.rt:266:1
 returns-2 : tie.Need-returns-2
 returns-2 c =
     let none = forward-none _ (c .before .before .before .before .before .before .before .before .before .before .before .pre) _ (c .before .before .before .before .before .before .sources-in .ensures) _ (c .before .before .before .before .before .first .ensures) (c .if2 .left) in
     (kept-sent _ none, (kept-table _ none, (refl, λ e. refl)))
 
--- src/lib.rt:266:1
-same-length-3 : tie.Need-same-length-3
-same-length-3 c = search needs
-
--- src/lib.rt:266:1
 returns-3 : tie.Need-returns-3
 returns-3 c =
     let none = forward-off _ _ _ _ (c .before .before .before .before .before .before .before .delivery-in .ensures) (c .before .before .is-enabled .ensures) (c .before .is-direct .ensures) (c .if1 .left) in
@@ -104,19 +37,19 @@ pub forward-spec : {M : Type 1} → statement M
 forward-spec =
     tie.close
     (tie.spec
-    delivery-in-requires
-    sources-in-requires
-    first-requires
-    is-enabled-requires
-    is-direct-requires
-    target-in-requires
-    one-requires
-    lower-requires
-    put-sources-requires
-    msi-of-requires
-    same-length
+    (λ c κs. search needs)
+    (λ c κs. search needs)
+    (λ c κs. search needs)
+    (λ c κs. search needs)
+    (λ c κs. search needs)
+    (λ c κs. search needs)
+    (λ c κs. search needs)
+    (λ c κs. search needs)
+    (λ c κs. search needs)
+    (λ c κs. search needs)
+    (λ c. search needs)
     returns
-    same-length-2
+    (λ c. search needs)
     returns-2
-    same-length-3
+    (λ c. search needs)
     returns-3)

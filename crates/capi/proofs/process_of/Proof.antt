@@ -4,11 +4,5 @@ use borrow.Author.Needs.{needs}
 use Rattle.capi.proofs.process_of.Statement.{statement}
 use Rattle.capi.proofs.process_of.Tie as tie
 
-returns : tie.Need-returns
-returns c = search (process-ways, needs)
-
-returns-2 : tie.Need-returns-2
-returns-2 c = search (process-ways, needs)
-
 pub process-of-spec : {M : Type 1} → statement M
-process-of-spec = tie.close (tie.spec returns returns-2)
+process-of-spec = tie.close (tie.spec (λ c. search (process-ways, needs)) (λ c. search (process-ways, needs)))

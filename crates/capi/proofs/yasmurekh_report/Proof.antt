@@ -8,39 +8,21 @@ use Rattle.capi.proofs.Spans.{put-length, long-report}
 use Rattle.capi.proofs.yasmurekh_report.Statement.{statement}
 use Rattle.capi.proofs.yasmurekh_report.Tie as tie
 
-returns : tie.Need-returns
-returns c = search (buffer-ways, needs)
-
-report-refusal-requires : tie.Need-report-refusal-requires
-report-refusal-requires c κs = search needs
-
-span-of-requires : tie.Need-span-of-requires
-span-of-requires c κs = search needs
-
-slice-write-out : tie.Need-slice-write-out
-slice-write-out c = search needs
-
-put-pairs-requires : tie.Need-put-pairs-requires
-put-pairs-requires c κs = search needs
-
 slice-write-out-2 : tie.Need-slice-write-out-2
 slice-write-out-2 c = omega (arith, simp length-set at (put-length _ _ _ (c .before .before .put-pairs .ensures .1)))
 
 same-length : tie.Need-same-length
 same-length c = simp length-set (put-length _ _ _ (c .before .before .put-pairs .ensures .1) ∙ simp length-set)
 
-returns-2 : tie.Need-returns-2
-returns-2 c = search (buffer-ways, long-report, needs)
-
 pub yasmurekh-report-spec : {M : Type 1} → statement M
 yasmurekh-report-spec =
     tie.close
     (tie.spec
-    returns
-    report-refusal-requires
-    span-of-requires
-    slice-write-out
-    put-pairs-requires
+    (λ c. search (buffer-ways, needs))
+    (λ c κs. search needs)
+    (λ c κs. search needs)
+    (λ c. search needs)
+    (λ c κs. search needs)
     slice-write-out-2
     same-length
-    returns-2)
+    (λ c. search (buffer-ways, long-report, needs)))

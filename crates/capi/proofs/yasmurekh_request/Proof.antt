@@ -8,18 +8,6 @@ use Rattle.capi.proofs.yasmurekh_request.Tie as tie
 returns : tie.Need-returns
 returns c = (short-told 5 _ (c .if1 .taken), (short-kept 5 _ _ _ (c .if1 .taken), short-kept 5 _ _ _ (c .if1 .taken)))
 
-face-requires : tie.Need-face-requires
-face-requires c κs = search needs
-
-put-answer-requires : tie.Need-put-answer-requires
-put-answer-requires c κs = search needs
-
-same-length : tie.Need-same-length
-same-length c = search needs
-
-same-length-2 : tie.Need-same-length-2
-same-length-2 c = search needs
-
 returns-2 : tie.Need-returns-2
 returns-2 c =
     let put = c .before .before in
@@ -34,4 +22,4 @@ returns-2 c =
 pub yasmurekh-request-spec : {M : Type 1} → statement M
 yasmurekh-request-spec =
     tie.close
-    (tie.spec returns face-requires put-answer-requires same-length same-length-2 returns-2)
+    (tie.spec returns (λ c κs. search needs) (λ c κs. search needs) (λ c. search needs) (λ c. search needs) returns-2)

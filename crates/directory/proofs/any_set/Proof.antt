@@ -4,11 +4,5 @@ use Rattle.directory.proofs.Tests.{tests}
 use Rattle.directory.proofs.any_set.Statement.{statement}
 use Rattle.directory.proofs.any_set.Tie as tie
 
-field-requires : tie.Need-field-requires
-field-requires c κs = search needs
-
-returns : tie.Need-returns
-returns c = search (tests, needs)
-
 pub any-set-spec : {M : Type 1} → statement M
-any-set-spec = tie.close (tie.spec field-requires returns)
+any-set-spec = tie.close (tie.spec (λ c κs. search needs) (λ c. search (tests, needs)))

@@ -4,11 +4,5 @@ use Rattle.directory.proofs.Checks.{checks}
 use Rattle.directory.proofs.bare.Statement.{statement}
 use Rattle.directory.proofs.bare.Tie as tie
 
-mode-requires : tie.Need-mode-requires
-mode-requires c κs = search needs
-
-returns : tie.Need-returns
-returns c = search (checks, needs)
-
 pub bare-spec : {M : Type 1} → statement M
-bare-spec = tie.close (tie.spec mode-requires returns)
+bare-spec = tie.close (tie.spec (λ c κs. search needs) (λ c. search (checks, needs)))

@@ -7,18 +7,6 @@ use borrow.Author.Needs.{needs}
 use Rattle.directory.proofs.field.Statement.{statement}
 use Rattle.directory.proofs.field.Tie as tie
 
-shr-result : tie.Need-shr-result
-shr-result c = search needs
-
-add-result : tie.Need-add-result
-add-result c = search needs
-
-sub-result : tie.Need-sub-result
-sub-result c = search needs
-
-shl-result : tie.Need-shl-result
-shl-result c = search needs
-
 rem-result : tie.Need-rem-result
 rem-result c = omega (arith, shl-exact {a = 1} 1 (c .args .high + 1 - c .args .low) 64 (omega arith) (omega arith), pow-pos (c .args .high + 1 - c .args .low))
 
@@ -26,4 +14,4 @@ returns : tie.Need-returns
 returns c = rw (shl-exact {a = 1} 1 (c .args .high + 1 - c .args .low) 64 (omega arith) (omega arith), one-mul)
 
 pub field-spec : {M : Type 1} → statement M
-field-spec = tie.close (tie.spec shr-result add-result sub-result shl-result rem-result returns)
+field-spec = tie.close (tie.spec (λ c. search needs) (λ c. search needs) (λ c. search needs) (λ c. search needs) rem-result returns)

@@ -4,14 +4,5 @@ use Rattle.memory.proofs.Choices.{picks}
 use Rattle.directory.proofs.first_scheme.Statement.{statement}
 use Rattle.directory.proofs.first_scheme.Tie as tie
 
-returns : tie.Need-returns
-returns c = search (picks, needs)
-
-returns-2 : tie.Need-returns-2
-returns-2 c = search (picks, needs)
-
-returns-3 : tie.Need-returns-3
-returns-3 c = search (picks, needs)
-
 pub first-scheme-spec : {M : Type 1} → statement M
-first-scheme-spec = tie.close (tie.spec returns returns-2 returns-3)
+first-scheme-spec = tie.close (tie.spec (λ c. search (picks, needs)) (λ c. search (picks, needs)) (λ c. search (picks, needs)))

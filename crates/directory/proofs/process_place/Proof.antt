@@ -4,14 +4,5 @@ use Rattle.directory.proofs.Processes.{placed-by}
 use Rattle.directory.proofs.process_place.Statement.{statement}
 use Rattle.directory.proofs.process_place.Tie as tie
 
-second-table-requires : tie.Need-second-table-requires
-second-table-requires c κs = search needs
-
-second-stage-requires : tie.Need-second-stage-requires
-second-stage-requires c κs = search needs
-
-returns : tie.Need-returns
-returns c = search (placed-by, needs)
-
 pub process-place-spec : {M : Type 1} → statement M
-process-place-spec = tie.close (tie.spec second-table-requires second-stage-requires returns)
+process-place-spec = tie.close (tie.spec (λ c κs. search needs) (λ c κs. search needs) (λ c. search (placed-by, needs)))

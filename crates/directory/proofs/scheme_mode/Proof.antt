@@ -3,8 +3,5 @@ use borrow.Author.Needs.{needs}
 use Rattle.directory.proofs.scheme_mode.Statement.{statement}
 use Rattle.directory.proofs.scheme_mode.Tie as tie
 
-returns : tie.Need-returns
-returns c = search needs
-
 pub scheme-mode-spec : {M : Type 1} → statement M
-scheme-mode-spec = tie.close (tie.spec returns)
+scheme-mode-spec = tie.close (tie.spec (λ c. search needs))

@@ -3,15 +3,6 @@ use borrow.Author.Needs.{needs}
 use Rattle.directory.proofs.translation_fault.Statement.{statement}
 use Rattle.directory.proofs.translation_fault.Tie as tie
 
-enum-known-t : tie.Need-enum-known-t
-enum-known-t c = search needs
-
-enum-told : tie.Need-enum-told
-enum-told c = search needs
-
-load-fault-requires : tie.Need-load-fault-requires
-load-fault-requires c κs = search needs
-
 returns : tie.Need-returns
 returns c f e = cc
 
@@ -20,4 +11,4 @@ returns-2 c f e = cc
 
 pub translation-fault-spec : {M : Type 1} → statement M
 translation-fault-spec =
-    tie.close (tie.spec enum-known-t enum-told load-fault-requires returns returns-2)
+    tie.close (tie.spec (λ c. search needs) (λ c. search needs) (λ c κs. search needs) returns returns-2)

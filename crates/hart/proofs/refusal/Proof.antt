@@ -3,15 +3,11 @@ use Rattle.memory.proofs.Choices.{picks}
 use Rattle.hart.specs.Hart.{hartRefusal}
 use Rattle.hart.proofs.refusal.Statement.{statement}
 use Rattle.hart.proofs.refusal.Tie as tie
-use Rattle.hart.proofs.refusal.Reads as reads
-use Rattle.hart.proofs.refusal.Lts as lts
 
--- src/lib.rt:64:9
 returns : tie.Need-returns
 unfolding hartRefusal
 returns c = search (picks, needs)
 
--- src/lib.rt:60:1
 returns-2 : tie.Need-returns-2
 unfolding hartRefusal
 returns-2 c = search (picks, needs)

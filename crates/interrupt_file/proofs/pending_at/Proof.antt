@@ -8,9 +8,6 @@ use Rattle.interrupt_file.proofs.pending_at.Tie as tie
 sub-result : tie.Need-sub-result
 sub-result c = omega (arith, file-at (c .pre .0))
 
-mul-result : tie.Need-mul-result
-mul-result c = search needs
-
 add-result : tie.Need-add-result
 add-result c = omega (arith, file-at (c .pre .0))
 
@@ -18,4 +15,4 @@ returns : tie.Need-returns
 returns c = let f = file-at (c .pre .0) in (omega arith, omega arith)
 
 pub pending-at-spec : {M : Type 1} → statement M
-pending-at-spec = tie.close (tie.spec sub-result mul-result add-result returns)
+pending-at-spec = tie.close (tie.spec sub-result (λ c. search needs) add-result returns)

@@ -4,11 +4,5 @@ use borrow.Author.Needs.{needs}
 use Rattle.iommu.proofs.bad_directory.Statement.{statement}
 use Rattle.iommu.proofs.bad_directory.Tie as tie
 
-returns : tie.Need-returns
-returns c = search (small-ways, needs)
-
-returns-2 : tie.Need-returns-2
-returns-2 c = search (small-ways, needs)
-
 pub bad-directory-spec : {M : Type 1} → statement M
-bad-directory-spec = tie.close (tie.spec returns returns-2)
+bad-directory-spec = tie.close (tie.spec (λ c. search (small-ways, needs)) (λ c. search (small-ways, needs)))

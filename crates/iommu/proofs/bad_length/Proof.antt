@@ -4,14 +4,5 @@ use borrow.Author.Needs.{needs}
 use Rattle.iommu.proofs.bad_length.Statement.{statement}
 use Rattle.iommu.proofs.bad_length.Tie as tie
 
-returns : tie.Need-returns
-returns c = search (small-ways, needs)
-
-sub-result : tie.Need-sub-result
-sub-result c = search needs
-
-returns-2 : tie.Need-returns-2
-returns-2 c = search (small-ways, needs)
-
 pub bad-length-spec : {M : Type 1} → statement M
-bad-length-spec = tie.close (tie.spec returns sub-result returns-2)
+bad-length-spec = tie.close (tie.spec (λ c. search (small-ways, needs)) (λ c. search needs) (λ c. search (small-ways, needs)))

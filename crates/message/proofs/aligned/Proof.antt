@@ -15,14 +15,8 @@ shl-size c = omega (arith, ones-le 52 _ (c .pre .1))
 returns : tie.Need-returns
 returns c = few-files _ _ (c .before .pre .1) (c .if1 .taken)
 
-mul-result : tie.Need-mul-result
-mul-result c = search needs
-
-rem-result : tie.Need-rem-result
-rem-result c = search needs
-
 returns-2 : tie.Need-returns-2
 returns-2 c = many-files _ _ (c .before .pre .1) (c .if1 .left)
 
 pub aligned-spec : {M : Type 1} → statement M
-aligned-spec = tie.close (tie.spec cast-size shl-size returns mul-result rem-result returns-2)
+aligned-spec = tie.close (tie.spec cast-size shl-size returns (λ c. search needs) (λ c. search needs) returns-2)

@@ -4,11 +4,8 @@ use Rattle.message.proofs.Rounds.{extract-below}
 use Rattle.message.proofs.extract.Statement.{statement}
 use Rattle.message.proofs.extract.Tie as tie
 
-pack-requires : tie.Need-pack-requires
-pack-requires c κs = search needs
-
 returns : tie.Need-returns
 returns c = let e = c .pack .ensures .0 in (e, rw e (extract-below _ _))
 
 pub extract-spec : {M : Type 1} → statement M
-extract-spec = tie.close (tie.spec pack-requires returns)
+extract-spec = tie.close (tie.spec (λ c κs. search needs) returns)

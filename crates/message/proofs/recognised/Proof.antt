@@ -5,15 +5,9 @@ use Rattle.message.specs.Recognition.{recognised}
 use Rattle.message.proofs.recognised.Statement.{statement}
 use Rattle.message.proofs.recognised.Tie as tie
 
-sub-result : tie.Need-sub-result
-sub-result c = search (and-le-l, and-le-r)
-
-sub-result-2 : tie.Need-sub-result-2
-sub-result-2 c = search (and-le-l, and-le-r)
-
 returns : tie.Need-returns
 unfolding recognised
 returns c = refl
 
 pub recognised-spec : {M : Type 1} → statement M
-recognised-spec = tie.close (tie.spec sub-result sub-result-2 returns)
+recognised-spec = tie.close (tie.spec (λ c. search (and-le-l, and-le-r)) (λ c. search (and-le-l, and-le-r)) returns)

@@ -17,9 +17,6 @@ add-over c = let b = c .before .before in omega (arith, over-fits (b .args .x) (
 sub-run : tie.Need-sub-run
 sub-run c = let b = c .before .before .before .before in run-fits (b .args .x) (b .args .p) (b .pre)
 
-sub-t10 : tie.Need-sub-t10
-sub-t10 c = search needs
-
 cast-t9 : tie.Need-cast-t9
 cast-t9 c = let b = c .before .before .before .before .before in omega (arith, start-below (b .args .x) (b .args .p) (b .pre))
 
@@ -46,7 +43,7 @@ round-spec =
     shl-over
     add-over
     sub-run
-    sub-t10
+    (λ c. search needs)
     cast-t9
     shr-t11
     add-t12

@@ -4,67 +4,22 @@ use borrow.Author.Needs.{needs}
 use Rattle.paging.proofs.page_fault.Statement.{statement}
 use Rattle.paging.proofs.page_fault.Tie as tie
 
-enum-told : tie.Need-enum-told
-enum-told c = search needs
-
-page-fault-requires : tie.Need-page-fault-requires
-page-fault-requires c κs = search needs
-
-enum-told-2 : tie.Need-enum-told-2
-enum-told-2 c = search needs
-
-guest-page-fault-requires : tie.Need-guest-page-fault-requires
-guest-page-fault-requires c κs = search needs
-
-guest-fault-requires : tie.Need-guest-fault-requires
-guest-fault-requires c κs = search needs
-
-enum-told-3 : tie.Need-enum-told-3
-enum-told-3 c = search needs
-
-guest-page-fault-requires-2 : tie.Need-guest-page-fault-requires-2
-guest-page-fault-requires-2 c κs = search needs
-
-guest-fault-requires-2 : tie.Need-guest-fault-requires-2
-guest-fault-requires-2 c κs = search needs
-
-enum-told-4 : tie.Need-enum-told-4
-enum-told-4 c = search needs
-
-guest-page-fault-requires-3 : tie.Need-guest-page-fault-requires-3
-guest-page-fault-requires-3 c κs = search needs
-
-guest-fault-requires-3 : tie.Need-guest-fault-requires-3
-guest-fault-requires-3 c κs = search needs
-
-returns : tie.Need-returns
-returns c = search (fault-ways, needs)
-
-returns-2 : tie.Need-returns-2
-returns-2 c = search (fault-ways, needs)
-
-returns-3 : tie.Need-returns-3
-returns-3 c = search (fault-ways, needs)
-
-returns-4 : tie.Need-returns-4
-returns-4 c = search (fault-ways, needs)
-
 pub page-fault-spec : {M : Type 1} → statement M
 page-fault-spec =
     tie.close
     (tie.spec
-    enum-told
-    page-fault-requires
-    enum-told-2
-    guest-page-fault-requires
-    guest-fault-requires
-    enum-told-3
-    guest-page-fault-requires-2
-    guest-fault-requires-2
-    enum-told-4
-    guest-page-fault-requires-3
-    guest-fault-requires-3
-    returns
-    returns-2
-    returns-3
-    returns-4)
+    (λ c. search needs)
+    (λ c κs. search needs)
+    (λ c. search needs)
+    (λ c κs. search needs)
+    (λ c κs. search needs)
+    (λ c. search needs)
+    (λ c κs. search needs)
+    (λ c κs. search needs)
+    (λ c. search needs)
+    (λ c κs. search needs)
+    (λ c κs. search needs)
+    (λ c. search (fault-ways, needs))
+    (λ c. search (fault-ways, needs))
+    (λ c. search (fault-ways, needs))
+    (λ c. search (fault-ways, needs)))

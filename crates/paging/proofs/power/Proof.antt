@@ -5,11 +5,8 @@ use borrow.Author.Needs.{needs}
 use Rattle.paging.proofs.power.Statement.{statement}
 use Rattle.paging.proofs.power.Tie as tie
 
-shl-result : tie.Need-shl-result
-shl-result c = search needs
-
 returns : tie.Need-returns
 returns c = let e = shl-exact {a = 1} 1 (c .args .k) 64 (omega arith) (omega arith) in omega (arith, e, pow-pos (c .args .k))
 
 pub power-spec : {M : Type 1} → statement M
-power-spec = tie.close (tie.spec shl-result returns)
+power-spec = tie.close (tie.spec (λ c. search needs) returns)

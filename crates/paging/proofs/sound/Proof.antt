@@ -4,11 +4,5 @@ use borrow.Author.Needs.{needs}
 use Rattle.paging.proofs.sound.Statement.{statement}
 use Rattle.paging.proofs.sound.Tie as tie
 
-bit-requires : tie.Need-bit-requires
-bit-requires c κs = search needs
-
-returns : tie.Need-returns
-returns c = search (bit-ways, needs)
-
 pub sound-spec : {M : Type 1} → statement M
-sound-spec = tie.close (tie.spec bit-requires returns)
+sound-spec = tie.close (tie.spec (λ c κs. search needs) (λ c. search (bit-ways, needs)))

@@ -3,11 +3,5 @@ use borrow.Author.Needs.{needs}
 use Rattle.paging.proofs.zero_bits.Statement.{statement}
 use Rattle.paging.proofs.zero_bits.Tie as tie
 
-mul-result : tie.Need-mul-result
-mul-result c = search needs
-
-returns : tie.Need-returns
-returns c = search needs
-
 pub zero-bits-spec : {M : Type 1} → statement M
-zero-bits-spec = tie.close (tie.spec mul-result returns)
+zero-bits-spec = tie.close (tie.spec (λ c. search needs) (λ c. search needs))

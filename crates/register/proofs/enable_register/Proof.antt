@@ -3,40 +3,31 @@ use borrow.Author.Needs.{needs}
 use Rattle.memory.proofs.Choices.{picks}
 use Rattle.register.proofs.enable_register.Statement.{statement}
 use Rattle.register.proofs.enable_register.Tie as tie
-use Rattle.register.proofs.enable_register.Reads as reads
-use Rattle.register.proofs.enable_register.Lts as lts
 
--- src/lib.rt:49:9
 returns : tie.Need-returns
 unfolding enableRegister
 returns c = search (picks, needs)
 
--- src/lib.rt:52:9
 returns-2 : tie.Need-returns-2
 unfolding enableRegister
 returns-2 c = search (picks, needs)
 
--- src/lib.rt:55:9
 returns-3 : tie.Need-returns-3
 unfolding enableRegister
 returns-3 c = search (picks, needs)
 
--- src/lib.rt:58:9
 returns-4 : tie.Need-returns-4
 unfolding enableRegister
 returns-4 c = search (picks, needs)
 
--- src/lib.rt:61:9
 returns-5 : tie.Need-returns-5
 unfolding enableRegister
 returns-5 c = search (picks, needs)
 
--- src/lib.rt:64:9
 returns-6 : tie.Need-returns-6
 unfolding enableRegister
 returns-6 c = search (picks, needs)
 
--- src/lib.rt:45:1
 returns-7 : tie.Need-returns-7
 unfolding enableRegister
 returns-7 c = search (picks, needs)

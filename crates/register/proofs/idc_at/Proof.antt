@@ -3,45 +3,35 @@ use Rattle.memory.proofs.Choices.{picks}
 use Rattle.register.specs.Register.{idcOf}
 use Rattle.register.proofs.idc_at.Statement.{statement}
 use Rattle.register.proofs.idc_at.Tie as tie
-use Rattle.register.proofs.idc_at.Reads as reads
-use Rattle.register.proofs.idc_at.Lts as lts
 
--- src/lib.rt:124:9
 returns : tie.Need-returns
 unfolding idcOf
 returns c = search (picks, needs)
 
--- src/lib.rt:127:9
 returns-2 : tie.Need-returns-2
 unfolding idcOf
 returns-2 c = search (picks, needs)
 
--- src/lib.rt:132:9
 returns-3 : tie.Need-returns-3
 unfolding idcOf
 returns-3 c = search (picks, needs)
 
--- src/lib.rt:135:9
 returns-4 : tie.Need-returns-4
 unfolding idcOf
 returns-4 c = search (picks, needs)
 
--- src/lib.rt:138:9
 returns-5 : tie.Need-returns-5
 unfolding idcOf
 returns-5 c = search (picks, needs)
 
--- src/lib.rt:141:9
 returns-6 : tie.Need-returns-6
 unfolding idcOf
 returns-6 c = search (picks, needs)
 
--- src/lib.rt:144:9
 returns-7 : tie.Need-returns-7
 unfolding idcOf
 returns-7 c = search (picks, needs)
 
--- src/lib.rt:120:1
 returns-8 : tie.Need-returns-8
 unfolding idcOf
 returns-8 c = search (picks, needs)

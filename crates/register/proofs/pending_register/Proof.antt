@@ -3,40 +3,31 @@ use borrow.Author.Needs.{needs}
 use Rattle.memory.proofs.Choices.{picks}
 use Rattle.register.proofs.pending_register.Statement.{statement}
 use Rattle.register.proofs.pending_register.Tie as tie
-use Rattle.register.proofs.pending_register.Reads as reads
-use Rattle.register.proofs.pending_register.Lts as lts
 
--- src/lib.rt:25:9
 returns : tie.Need-returns
 unfolding pendingRegister
 returns c = search (picks, needs)
 
--- src/lib.rt:28:9
 returns-2 : tie.Need-returns-2
 unfolding pendingRegister
 returns-2 c = search (picks, needs)
 
--- src/lib.rt:31:9
 returns-3 : tie.Need-returns-3
 unfolding pendingRegister
 returns-3 c = search (picks, needs)
 
--- src/lib.rt:34:9
 returns-4 : tie.Need-returns-4
 unfolding pendingRegister
 returns-4 c = search (picks, needs)
 
--- src/lib.rt:37:9
 returns-5 : tie.Need-returns-5
 unfolding pendingRegister
 returns-5 c = search (picks, needs)
 
--- src/lib.rt:40:9
 returns-6 : tie.Need-returns-6
 unfolding pendingRegister
 returns-6 c = search (picks, needs)
 
--- src/lib.rt:21:1
 returns-7 : tie.Need-returns-7
 unfolding pendingRegister
 returns-7 c = search (picks, needs)

@@ -2,32 +2,7 @@ use Rattle.aplic.proofs.Domains.{none-table, none-hart, none-value, too
 use borrow.Author.Needs.{needs}
 use Rattle.aplic.proofs.Domain.claim_with.Statement.{statement}
 use Rattle.aplic.proofs.Domain.claim_with.Tie as tie
-use Rattle.aplic.proofs.Domain.claim_with.Reads as reads
-use Rattle.aplic.proofs.Domain.claim_with.Lts as lts
-use Rattle.aplic.proofs.Domain.top.Reads as top-reads
-use Rattle.hart.proofs.refusal.Reads as refusal-reads
-use Rattle.hart.proofs.unforced.Reads as unforced-reads
-use Rattle.source.proofs.is_direct.Reads as is-direct-reads
-use Rattle.sources.proofs.Sources.lower.Reads as lower-reads
-use Rattle.word.proofs.one.Reads as one-reads
 
--- src/lib.rt:301:13
-refusal-requires : tie.Need-refusal-requires
-refusal-requires c κs = search needs
-
--- src/lib.rt:303:16
-is-direct-requires : tie.Need-is-direct-requires
-is-direct-requires c κs = search needs
-
--- src/lib.rt:304:21
-top-requires : tie.Need-top-requires
-top-requires c κs = search needs
-
--- src/lib.rt:308:31
-unforced-requires : tie.Need-unforced-requires
-unforced-requires c κs = search needs
-
--- src/lib.rt:306:21
 returns : tie.Need-returns
 returns c =
     let a = c .before .before .before .before in
@@ -40,19 +15,6 @@ returns c =
     let n = c .before .if3 .taken in
     (none-table _ _ d _ x _ r z e _ v n, none-hart _ _ d _ x _ r z e _ v _ n (c .unforced .ensures), none-value _ _ d _ x _ r z e _ v n, fine _ _ r z, search (length-through, a .before .before .before .good .0 .1 .1 .1 .1 .1 .1 .0))
 
--- src/lib.rt:313:64
-cast-one : tie.Need-cast-one
-cast-one c = search needs
-
--- src/lib.rt:313:54
-one-requires : tie.Need-one-requires
-one-requires c κs = search needs
-
--- src/lib.rt:313:17
-lower-requires : tie.Need-lower-requires
-lower-requires c κs = search needs
-
--- src/lib.rt:314:17
 returns-2 : tie.Need-returns-2
 returns-2 c =
     let a = c .before .before .before .before .before in
@@ -65,7 +27,6 @@ returns-2 c =
     let n = c .before .before .if3 .left in
     (took-table _ _ d _ x _ r z e _ v _ _ n (c .before .one .ensures) (c .lower .ensures), took-hart _ _ d _ x _ r z e _ v n, took-value _ _ d _ x _ r z e _ v n, fine _ _ r z, search (length-through, a .before .before .before .good .0 .1 .1 .1 .1 .1 .1 .0))
 
--- src/lib.rt:297:5
 returns-3 : tie.Need-returns-3
 returns-3 c =
     let x = c .before .before .before .before .args .x in
@@ -74,7 +35,6 @@ returns-3 c =
     let e = c .if2 .left in
     (mode-table _ _ d _ x _ r e, mode-hart _ _ d _ x _ r e, mode-value _ _ d _ x _ r e, r, search (length-through, c .before .before .before .before .good .0 .1 .1 .1 .1 .1 .1 .0))
 
--- src/lib.rt:297:5
 returns-4 : tie.Need-returns-4
 returns-4 c =
     let x = c .before .before .args .x in
@@ -86,14 +46,14 @@ pub claim-with-spec : {M : Type 1} → statement M
 claim-with-spec =
     tie.close
     (tie.spec
-    refusal-requires
-    is-direct-requires
-    top-requires
-    unforced-requires
+    (λ c κs. search needs)
+    (λ c κs. search needs)
+    (λ c κs. search needs)
+    (λ c κs. search needs)
     returns
-    cast-one
-    one-requires
-    lower-requires
+    (λ c. search needs)
+    (λ c κs. search needs)
+    (λ c κs. search needs)
     returns-2
     returns-3
     returns-4)

@@ -3,52 +3,16 @@ use Rattle.register.proofs.Known.{knowing}
 use borrow.Author.Needs.{needs}
 use Rattle.aplic.proofs.Domain.write_idc.Statement.{statement}
 use Rattle.aplic.proofs.Domain.write_idc.Tie as tie
-use Rattle.aplic.proofs.Domain.write_idc.Reads as reads
-use Rattle.aplic.proofs.Domain.write_idc.Lts as lts
-use Rattle.aplic.proofs.Domain.write_hart.Reads as write-hart-reads
-use Rattle.register.proofs.idc_at.Reads as idc-at-reads
-
--- src/lib.rt:276:13
-idc-at-requires : tie.Need-idc-at-requires
-idc-at-requires c κs = search needs
-
--- src/lib.rt:278:25
-enum-known-g : tie.Need-enum-known-g
-enum-known-g c = search needs
-
--- src/lib.rt:278:34
-write-hart-requires : tie.Need-write-hart-requires
-write-hart-requires c κs = search (idc-writes, knowing, needs)
-
--- src/lib.rt:279:31
-enum-told : tie.Need-enum-told
-enum-told c = search needs
-
--- src/lib.rt:280:30
-enum-told-2 : tie.Need-enum-told-2
-enum-told-2 c = search needs
-
--- src/lib.rt:273:5
-returns : tie.Need-returns
-returns c = search (idc-writes, knowing, needs)
-
--- src/lib.rt:273:5
-returns-2 : tie.Need-returns-2
-returns-2 c = search (idc-writes, knowing, needs)
-
--- src/lib.rt:273:5
-returns-3 : tie.Need-returns-3
-returns-3 c = search (idc-writes, knowing, needs)
 
 pub write-idc-spec : {M : Type 1} → statement M
 write-idc-spec =
     tie.close
     (tie.spec
-    idc-at-requires
-    enum-known-g
-    write-hart-requires
-    enum-told
-    enum-told-2
-    returns
-    returns-2
-    returns-3)
+    (λ c κs. search needs)
+    (λ c. search needs)
+    (λ c κs. search (idc-writes, knowing, needs))
+    (λ c. search needs)
+    (λ c. search needs)
+    (λ c. search (idc-writes, knowing, needs))
+    (λ c. search (idc-writes, knowing, needs))
+    (λ c. search (idc-writes, knowing, needs)))

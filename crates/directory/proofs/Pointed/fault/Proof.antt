@@ -3,15 +3,6 @@ use borrow.Author.Needs.{needs}
 use Rattle.directory.proofs.Pointed.fault.Statement.{statement}
 use Rattle.directory.proofs.Pointed.fault.Tie as tie
 
-enum-known-self : tie.Need-enum-known-self
-enum-known-self c = search needs
-
-enum-told : tie.Need-enum-told
-enum-told c = search needs
-
-load-fault-requires : tie.Need-load-fault-requires
-load-fault-requires c κs = search needs
-
 returns : tie.Need-returns
 returns c f e = cc
 
@@ -19,4 +10,4 @@ returns-2 : tie.Need-returns-2
 returns-2 c f e = cc
 
 pub fault-spec : {M : Type 1} → statement M
-fault-spec = tie.close (tie.spec enum-known-self enum-told load-fault-requires returns returns-2)
+fault-spec = tie.close (tie.spec (λ c. search needs) (λ c. search needs) (λ c κs. search needs) returns returns-2)

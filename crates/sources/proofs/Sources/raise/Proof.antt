@@ -2,43 +2,14 @@ use Rattle.sources.proofs.Masks.{masks}
 use borrow.Author.Needs.{needs}
 use Rattle.sources.proofs.Sources.raise.Statement.{statement}
 use Rattle.sources.proofs.Sources.raise.Tie as tie
-use Rattle.sources.proofs.Sources.raise.Reads as reads
-use Rattle.sources.proofs.Sources.raise.Lts as lts
-use Rattle.source.proofs.is_direct.Reads as is-direct-reads
-use Rattle.word.proofs.every.Reads as every-reads
-use Rattle.word.proofs.without.Reads as without-reads
-
--- src/lib.rt:82:34
-is-direct-requires : tie.Need-is-direct-requires
-is-direct-requires c κs = search needs
-
--- src/lib.rt:82:13
-every-requires : tie.Need-every-requires
-every-requires c κs = search needs
-
--- src/lib.rt:83:13
-without-requires : tie.Need-without-requires
-without-requires c κs = search needs
-
--- src/lib.rt:84:13
-without-requires-2 : tie.Need-without-requires-2
-without-requires-2 c κs = search needs
-
--- src/lib.rt:85:13
-without-requires-3 : tie.Need-without-requires-3
-without-requires-3 c κs = search needs
-
--- src/lib.rt:79:5
-returns : tie.Need-returns
-returns c = search (masks, needs)
 
 pub raise-spec : {M : Type 1} → statement M
 raise-spec =
     tie.close
     (tie.spec
-    is-direct-requires
-    every-requires
-    without-requires
-    without-requires-2
-    without-requires-3
-    returns)
+    (λ c κs. search needs)
+    (λ c κs. search needs)
+    (λ c κs. search needs)
+    (λ c κs. search needs)
+    (λ c κs. search needs)
+    (λ c. search (masks, needs)))
