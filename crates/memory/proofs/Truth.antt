@@ -16,13 +16,14 @@ abbrev pub Holds : (n : ℕ) → Row n → Type 0
 Holds zero f = f ≡ true
 Holds (suc n) f = (b : Bool) → Holds n (f b)
 
-both : (a b : Bool) → (a && b) ≡ true → (a ≡ true) × (b ≡ true)
-both true b e = (refl, e)
-both false b e = (e, cc)
+-- both parts of a conjunction
+pub and-true : (a b : Bool) → (a && b) ≡ true → (a ≡ true) × (b ≡ true)
+and-true true b e = (refl, e)
+and-true false b e = (e, cc)
 
 at-both : (f : Bool → Bool) → (f true && f false) ≡ true → (b : Bool) → f b ≡ true
-at-both f e true = both (f true) (f false) e .0
-at-both f e false = both (f true) (f false) e .1
+at-both f e true = and-true (f true) (f false) e .0
+at-both f e false = and-true (f true) (f false) e .1
 
 pub every : (n : ℕ) (f : Row n) → all n f ≡ true → Holds n f
 every zero f e = e

@@ -2,7 +2,7 @@
 ghost use mathlib.Core.Path.{_≡_};
 ghost use Prim.Native.Nat.{_+_, _≤_, _<_};
 ghost use lib.ListN.{length};
-ghost use Rattle.memory.specs.Bits.{bit as bitOf};
+ghost use Rattle.memory.specs.Bits.{bit as bitOf, bits, anySet};
 ghost use Rattle.memory.specs.Window.{little, doubleword, memory};
 
 // A doubleword that was read, or an access violation.
@@ -66,4 +66,27 @@ pub fn bit(e: u64, k: u64) -> bool
     ensures { λ r. ⌜ r ≡ bitOf e k ⌝ }
 {
     (e >> k) % 2 == 1
+}
+
+// Bits high to low of e, as a number.
+pub fn field(e: u64, high: u64, low: u64) -> u64
+    requires { ⌜ (low ≤ high) × (high < low + 63) × (low < 64) ⌝ }
+    ensures { λ r. ⌜ r ≡ bits e high low ⌝ }
+{
+    (e >> low) % (1 << (high + 1 - low))
+}
+
+// Some bit from high to low is 1.
+pub fn any_set(e: u64, high: u64, low: u64) -> bool
+    requires { ⌜ (low ≤ high) × (high < low + 63) × (low < 64) ⌝ }
+    ensures { λ r. ⌜ r ≡ anySet e high low ⌝ }
+{
+    field(e, high, low) != 0
+}
+
+// The same for all bits of e: a field has at most 63.
+pub fn nonzero(e: u64) -> bool
+    ensures { λ r. ⌜ r ≡ anySet e 63 0 ⌝ }
+{
+    e != 0
 }
