@@ -1,7 +1,3 @@
-pub mod Schemes
-pub mod Entries
-pub mod Masks
-pub mod Tested
-pub mod Turns
-pub mod Opening
-pub mod Ranges
+pub mod LevelsLaws
+pub mod CodeLaws
+pub mod StagesLaws

@@ -1,7 +1,3 @@
-pub mod Scheme
-pub mod Purpose
-pub mod Entry
 pub mod Levels
 pub mod Stages
-pub mod Within
-pub mod Tests
+pub mod Code

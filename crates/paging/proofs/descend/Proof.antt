@@ -1,11 +1,12 @@
-use Rattle.paging.proofs.Turns.{deep-ways}
+use borrow.Author.Needs.{needs}
+use Rattle.paging.proofs.CodeLaws.{raw-ways}
+-- `descend` meets its contract. The invariant: what is left of the walk gives what the whole gives; the measure is the level. Assumes nothing.
 use Prim.Native.Nat.{suc, _+_, _*_, _<_, _^_}
 use mathlib.Core.Path.{_≡_}
 use Rattle.memory.specs.Window.{memory}
 use Rattle.memory.specs.Walk.{run}
-use Rattle.paging.specs.Scheme.{levelsOf, indexOf}
-use Rattle.paging.specs.Tests.{rawLevels, rawWalk}
-use borrow.Author.Needs.{needs}
+use Rattle.paging_scheme.specs.Scheme.{levelsOf, indexOf}
+use Rattle.paging.specs.Code.{rawLevels, rawWalk}
 use Rattle.paging.proofs.descend.Statement.{statement}
 use Rattle.paging.proofs.descend.Tie as tie
 
@@ -17,11 +18,17 @@ Inv-loop s t a top index start window root n₀ shift₀ table₀ i₀ at₀ n s
 abbrev μ-loop : tie.MeasureT-loop
 μ-loop s t a top index start window root n₀ shift₀ table₀ i₀ at₀ n shift table i at = n
 
+levels-requires : tie.Need-levels-requires Inv-loop μ-loop
+levels-requires c κs = tt
+
 loop-holds : tie.Need-loop-holds Inv-loop μ-loop
-loop-holds c = (search (deep-ways, needs), search (deep-ways, needs), search (deep-ways, needs), search (deep-ways, needs), search (deep-ways, needs), search (deep-ways, needs), search (deep-ways, needs), search (deep-ways, needs))
+loop-holds c = (search (raw-ways, needs), search (raw-ways, needs), search (raw-ways, needs), search (raw-ways, needs), search (raw-ways, needs), search (raw-ways, needs), search (raw-ways, needs), search (raw-ways, needs))
+
+load64-requires : tie.Need-load64-requires Inv-loop μ-loop
+load64-requires c κs = tt
 
 loop-again : tie.Need-loop-again Inv-loop μ-loop
-loop-again c = (search (deep-ways, needs), search (deep-ways, needs), search (deep-ways, needs), search (deep-ways, needs), search (deep-ways, needs), search (deep-ways, needs), search (deep-ways, needs), search (deep-ways, needs))
+loop-again c = (search (raw-ways, needs), search (raw-ways, needs), search (raw-ways, needs), search (raw-ways, needs), search (raw-ways, needs), search (raw-ways, needs), search (raw-ways, needs), search (raw-ways, needs))
 
 pub descend-spec : {M : Type 1} → statement M
 descend-spec =
@@ -29,23 +36,23 @@ descend-spec =
     (tie.spec
     Inv-loop
     μ-loop
-    (λ c κs. search (deep-ways, needs))
-    (λ c. search (deep-ways, needs))
-    (λ c κs. search (deep-ways, needs))
+    levels-requires
+    (λ c. search (raw-ways, needs))
+    (λ c κs. search (raw-ways, needs))
     loop-holds
-    (λ c κs. search (deep-ways, needs))
-    (λ c κs. search (deep-ways, needs))
-    (λ c. search (deep-ways, needs))
-    (λ c. search (deep-ways, needs))
-    (λ c. search (deep-ways, needs))
-    (λ c. search (deep-ways, needs))
-    (λ c κs. search (deep-ways, needs))
-    (λ c κs. search (deep-ways, needs))
-    (λ c. search (deep-ways, needs))
+    load64-requires
+    (λ c κs. search (raw-ways, needs))
+    (λ c. search (raw-ways, needs))
+    (λ c. search (raw-ways, needs))
+    (λ c. search (raw-ways, needs))
+    (λ c. search (raw-ways, needs))
+    (λ c κs. search (raw-ways, needs))
+    (λ c κs. search (raw-ways, needs))
+    (λ c. search (raw-ways, needs))
     loop-again
-    (λ c. search (deep-ways, needs))
-    (λ c. search (deep-ways, needs))
-    (λ c. search (deep-ways, needs))
-    (λ c. search (deep-ways, needs))
-    (λ c. search (deep-ways, needs))
-    (λ c. search (deep-ways, needs)))
+    (λ c. search (raw-ways, needs))
+    (λ c. search (raw-ways, needs))
+    (λ c. search (raw-ways, needs))
+    (λ c. search (raw-ways, needs))
+    (λ c. search (raw-ways, needs))
+    (λ c. search (raw-ways, needs)))

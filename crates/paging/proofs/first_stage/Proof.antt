@@ -1,4 +1,4 @@
-use Rattle.paging.proofs.Turns.{first-ways}
+use Rattle.paging.proofs.CodeLaws.{first-ways}
 use borrow.Author.Needs.{needs}
 use Rattle.paging.proofs.first_stage.Statement.{statement}
 use Rattle.paging.proofs.first_stage.Tie as tie
@@ -7,20 +7,13 @@ pub first-stage-spec : {M : Type 1} → statement M
 first-stage-spec =
     tie.close
     (tie.spec
-    (λ c κs. search (first-ways, needs))
-    (λ c κs. search (first-ways, needs))
+    (λ c κs. tt)
+    (λ c κs. tt)
     (λ c. search (first-ways, needs))
-    (λ c κs. search (first-ways, needs))
+    (λ c κs. tt)
     (λ c. search (first-ways, needs))
-    (λ c κs. search (first-ways, needs))
-    (λ c κs. search (first-ways, needs))
-    (λ c. search (first-ways, needs))
-    (λ c κs. search (first-ways, needs))
-    (λ c. search (first-ways, needs))
-    (λ c κs. search (first-ways, needs))
-    (λ c κs. search (first-ways, needs))
-    (λ c κs. search (first-ways, needs))
-    (λ c κs. search (first-ways, needs))
-    (λ c κs. search (first-ways, needs))
+    (λ c κs. tt)
+    (λ c κs. tt)
+    (λ c κs. tt)
     (λ c. search (first-ways, needs))
     (λ c. search (first-ways, needs)))

@@ -1,20 +1,20 @@
--- `guest_descend` meets its contract, by the laws of `descend`: only the way to reach an entry differs. Assumes nothing.
-use Rattle.paging.proofs.Turns.{walk-ways}
+-- `guest_descend` meets its contract, by the laws of `descend`: only the way to an entry differs. Assumes nothing.
+use Rattle.paging.proofs.CodeLaws.{walk-ways}
 use borrow.Author.Needs.{needs}
 use Prim.Native.Nat.{_<_, _^_}
 use mathlib.Core.Path.{_≡_}
 use Rattle.memory.specs.Window.{memory}
 use Rattle.memory.specs.Walk.{run}
-use Rattle.paging.specs.Scheme.{levelsOf}
+use Rattle.paging_scheme.specs.Scheme.{levelsOf}
 use Rattle.paging.specs.Levels.{levels}
-use Rattle.paging.specs.Stages.{entryReach}
+use Rattle.paging.specs.Stages.{entryPlace}
 use Rattle.paging.proofs.guest_descend.Statement.{statement}
 use Rattle.paging.proofs.guest_descend.Tie as tie
 
 abbrev Inv-loop : tie.InvT-loop
 Inv-loop s q g start window root t left₀ table₀ left table =
     (left < 6) × (table < 2 ^ 44)
-    × (run (memory start window) (levels s q (entryReach g q) left table) ≡ run (memory start window) (levels s q (entryReach g q) (levelsOf s) root))
+    × (run (memory start window) (levels s q (entryPlace g q) left table) ≡ run (memory start window) (levels s q (entryPlace g q) (levelsOf s) root))
 
 abbrev μ-loop : tie.MeasureT-loop
 μ-loop s q g start window root t left₀ table₀ left table = left
@@ -25,9 +25,9 @@ guest-descend-spec =
     (tie.spec
     Inv-loop
     μ-loop
-    (λ c κs. search needs)
-    (λ c κs. search needs)
-    (λ c κs. search (walk-ways, needs))
+    (λ c κs. tt)
+    (λ c κs. tt)
+    (λ c κs. tt)
     (λ c. search (walk-ways, needs))
     (λ c. search (walk-ways, needs))
     (λ c κs. search (walk-ways, needs))
@@ -36,5 +36,5 @@ guest-descend-spec =
     (λ c. search (walk-ways, needs))
     (λ c. search (walk-ways, needs))
     (λ c. search (walk-ways, needs))
-    (λ c κs. search (walk-ways, needs))
+    (λ c κs. tt)
     (λ c. search (walk-ways, needs)))

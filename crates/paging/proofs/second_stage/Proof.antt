@@ -1,5 +1,4 @@
-use Rattle.paging.proofs.Schemes.{guest-ways}
-use Rattle.paging.proofs.Turns.{second-ways}
+use Rattle.paging.proofs.CodeLaws.{second-ways}
 use borrow.Author.Needs.{needs}
 use Rattle.paging.proofs.second_stage.Statement.{statement}
 use Rattle.paging.proofs.second_stage.Tie as tie
@@ -8,14 +7,9 @@ pub second-stage-spec : {M : Type 1} → statement M
 second-stage-spec =
     tie.close
     (tie.spec
-    (λ c κs. search (second-ways, guest-ways, needs))
-    (λ c κs. search (second-ways, guest-ways, needs))
-    (λ c κs. search (second-ways, guest-ways, needs))
-    (λ c. search (second-ways, guest-ways, needs))
-    (λ c κs. search (second-ways, guest-ways, needs))
-    (λ c κs. search (second-ways, guest-ways, needs))
-    (λ c κs. search (second-ways, guest-ways, needs))
-    (λ c κs. search (second-ways, guest-ways, needs))
-    (λ c κs. search (second-ways, guest-ways, needs))
-    (λ c. search (second-ways, guest-ways, needs))
-    (λ c. search (second-ways, guest-ways, needs)))
+    (λ c κs. tt)
+    (λ c κs. tt)
+    (λ c κs. search needs)
+    (λ c κs. tt)
+    (λ c. search (second-ways, needs))
+    (λ c. search (second-ways, needs)))

@@ -1,7 +1,0 @@
-use Rattle.paging.proofs.Schemes.{below-ways}
-use borrow.Author.Needs.{needs}
-use Rattle.paging.proofs.Scheme.below.Statement.{statement}
-use Rattle.paging.proofs.Scheme.below.Tie as tie
-
-pub below-spec : {M : Type 1} → statement M
-below-spec = tie.close (tie.spec (λ c. search (below-ways, needs)) (λ c. search (below-ways, needs)))

@@ -1,8 +1,0 @@
--- `sound` meets its contract: one law for each return. Assumes nothing.
-use Rattle.paging.proofs.Entries.{bit-ways}
-use borrow.Author.Needs.{needs}
-use Rattle.paging.proofs.sound.Statement.{statement}
-use Rattle.paging.proofs.sound.Tie as tie
-
-pub sound-spec : {M : Type 1} → statement M
-sound-spec = tie.close (tie.spec (λ c κs. search needs) (λ c. search (bit-ways, needs)))

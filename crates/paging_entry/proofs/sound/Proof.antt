@@ -1,0 +1,7 @@
+use Rattle.paging_entry.proofs.CodeLaws.{bit-ways}
+use borrow.Author.Needs.{needs}
+use Rattle.paging_entry.proofs.sound.Statement.{statement}
+use Rattle.paging_entry.proofs.sound.Tie as tie
+
+pub sound-spec : {M : Type 1} → statement M
+sound-spec = tie.close (tie.spec (λ c κs. search needs) (λ c κs. search needs) (λ c. search (bit-ways, needs)))

@@ -1,0 +1,3 @@
+pub mod Purpose
+pub mod Entry
+pub mod Code
