@@ -8,12 +8,12 @@ first-stage-spec =
     tie.close
     (tie.spec
     (λ c κs. tt)
-    (λ c κs. tt)
+    (λ c κs. search needs)
     (λ c. search (first-ways, needs))
     (λ c κs. tt)
     (λ c. search (first-ways, needs))
     (λ c κs. tt)
-    (λ c κs. tt)
+    (λ c κs. search needs)
     (λ c κs. tt)
     (λ c. search (first-ways, needs))
     (λ c. search (first-ways, needs)))
