@@ -1,6 +1,6 @@
 -- A file's place in the window, and one bit of it changed by way of its doubleword. Assumes nothing.
 use Prim.Native.Nat.{ℕ, _+_, _-_, _/_, _%_, _≤_, _<_}
-use mathlib.Core.Bool.{Bool, true, false, _&&_}
+use mathlib.Core.Bool.{Bool, true, false}
 use mathlib.Core.List.{List}
 use mathlib.Core.Path.{_≡_, refl, ap, _∙_}
 use native.Mathlib.Omega.{arith}
@@ -8,7 +8,8 @@ use borrow.Author.Tests.{eqb-true, leb-true, eq-eqb, le-leb}
 use borrow.Rule.Slice.PartMut.{midOf, putMid, set-mid-at}
 use lib.ListN.{length, getD, set, length-take, length-drop}
 use lib.Seq.{getD-drop, getD-take}
-use Rattle.interrupt_file.specs.Bit.{bitAt, raised, lowered}
+use Rattle.memory.proofs.Truth.{and-true}
+use Rattle.interrupt_file.specs.Bit.{bitAt, withBit, withoutBit}
 use Rattle.interrupt_file.specs.File.{isFile, placeOf, pendingOf, afterStore, afterTake}
 
 -- what `isFile` says
@@ -16,10 +17,6 @@ pub record FileAt (start len file : ℕ) : Type 0 where
   pub aligned : file % 512 ≡ 0
   pub after : start ≤ file
   pub within : file + 512 ≤ start + len
-
-and-true : (a b : Bool) → a && b ≡ true → (a ≡ true) × (b ≡ true)
-and-true true b e = (refl, e)
-and-true false b e = (e, cc)
 
 -- a test that can't hold is false
 not-so : (b : Bool) → (b ≡ true → ⊥) → false ≡ b
@@ -70,15 +67,15 @@ module _ (start : ℕ) (xs : List ℕ) (file n at : ℕ) (h : start + at + n % 6
       ∙ ap (λ i. set xs i (f (n % 64 % 8) (getD xs i 0))) byte-is
       ∙ ap (λ k. set xs (placeOf file n - start) (f k (getD xs (placeOf file n - start) 0))) bit-is
 
-  pub stored : (ys : List ℕ) → ys ≡ set (lent at xs) (n % 64 / 8) (raised (n % 64 % 8) (getD (lent at xs) (n % 64 / 8) 0))
+  pub stored : (ys : List ℕ) → ys ≡ set (lent at xs) (n % 64 / 8) (withBit (n % 64 % 8) (getD (lent at xs) (n % 64 / 8) 0))
       → back at xs ys ≡ afterStore start xs file n
   unfolding afterStore
-  stored ys q = changed raised ys q
+  stored ys q = changed withBit ys q
 
-  pub taken : (ys : List ℕ) → ys ≡ set (lent at xs) (n % 64 / 8) (lowered (n % 64 % 8) (getD (lent at xs) (n % 64 / 8) 0))
+  pub taken : (ys : List ℕ) → ys ≡ set (lent at xs) (n % 64 / 8) (withoutBit (n % 64 % 8) (getD (lent at xs) (n % 64 / 8) 0))
       → back at xs ys ≡ afterTake start xs file n
   unfolding afterTake
-  taken ys q = changed lowered ys q
+  taken ys q = changed withoutBit ys q
 
   pub was : (r : ℕ) → r ≡ bitAt (n % 64 % 8) (getD (lent at xs) (n % 64 / 8) 0) → r ≡ pendingOf start xs file n
   unfolding pendingOf

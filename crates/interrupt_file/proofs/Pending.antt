@@ -8,9 +8,9 @@ use borrow.Author.Tests.{eqb-true, eqb-false}
 use lib.Dec.{eqb}
 use lib.ListN.{length, getD, set, length-set}
 use lib.Seq.{getD-set-same, getD-set-other}
-use Rattle.interrupt_file.specs.Bit.{bitAt, raised, lowered}
+use Rattle.interrupt_file.specs.Bit.{bitAt, withBit, withoutBit}
 use Rattle.interrupt_file.specs.File.{isFile, byteOf, placeOf, pendingOf, afterStore, afterTake}
-use Rattle.interrupt_file.proofs.Bits.{bit-raised, bit-raised-other, bit-lowered, bit-lowered-other, bit-lt}
+use Rattle.interrupt_file.proofs.Bits.{bit-set, bit-set-other, bit-cleared, bit-cleared-other, bit-lt}
 use Rattle.interrupt_file.proofs.Files.{file-at}
 
 -- an identity's byte lies among the file's 512
@@ -71,11 +71,11 @@ module _ (start : ℕ) (xs : List ℕ) (file n : ℕ) where
     -- a store sets its own bit, and a take clears it
     pub pending-stored : pendingOf start (afterStore start xs file n) file n ≡ 1
     unfolding pendingOf afterStore
-    pending-stored = rw (getD-set-same {A = ℕ} xs _ _ 0 in-window) (bit-raised (n % 8) _)
+    pending-stored = rw (getD-set-same {A = ℕ} xs _ _ 0 in-window) (bit-set (n % 8) _)
 
     pub pending-taken : pendingOf start (afterTake start xs file n) file n ≡ 0
     unfolding pendingOf afterTake
-    pending-taken = rw (getD-set-same {A = ℕ} xs _ _ 0 in-window) (bit-lowered (n % 8) _)
+    pending-taken = rw (getD-set-same {A = ℕ} xs _ _ 0 in-window) (bit-cleared (n % 8) _)
 
     -- every other bit is as it was
     module _ (g m : ℕ) (hg : isFile start (length xs) g ≡ true) (lm : m < 2048) (other : g ≡ file → m ≡ n → ⊥) where
@@ -96,8 +96,12 @@ module _ (start : ℕ) (xs : List ℕ) (file n : ℕ) where
 
       pub pending-store-other : pendingOf start (afterStore start xs file n) g m ≡ pendingOf start xs g m
       unfolding pendingOf afterStore
-      pending-store-other = kept raised bit-raised-other
+      pending-store-other = kept withBit bit-set-other
 
       pub pending-take-other : pendingOf start (afterTake start xs file n) g m ≡ pendingOf start xs g m
       unfolding pendingOf afterTake
-      pending-take-other = kept lowered bit-lowered-other
+      pending-take-other = kept withoutBit bit-cleared-other
+
+      -- so a routine that sets another bit too, let alone every bit, doesn't keep the promise of a store
+      pub sets-no-other : (ys : List ℕ) → ys ≡ afterStore start xs file n → pendingOf start ys g m ≡ 1 → pendingOf start xs g m ≡ 1
+      sets-no-other ys e p = sym pending-store-other ∙ ap (λ (zs : List ℕ). pendingOf start zs g m) (sym e) ∙ p

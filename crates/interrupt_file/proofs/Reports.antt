@@ -29,17 +29,17 @@ module _ (bytes : List ℕ) (at : ℕ) where
   none-read pairs l = record { turns = omega arith; long = l; reads = refl; counts = refl; small = omega arith }
 
   module _ {k count : ℕ} {pairs : List Pair} (r : Read bytes at k count pairs) where
-    pub one-more : (p e c : ℕ) → k < 32 → p ≡ doubleword bytes (at + 16 * k) → e ≡ doubleword bytes (at + 16 * k + 8) → (c ≡ ones p) × (c ≤ 64)
-        → Read bytes at (k + 1) (count + c) (set pairs k (record { pending = p; enable = e }))
+    pub one-more : (p e more : ℕ) → k < 32 → p ≡ doubleword bytes (at + 16 * k) → e ≡ doubleword bytes (at + 16 * k + 8) → more ≡ count + ones p → more ≤ count + 64
+        → Read bytes at (k + 1) more (set pairs k (record { pending = p; enable = e }))
     unfolding pairsOf countOf
-    one-more p e c h hp he hc =
+    one-more p e more h hp he hc hl =
         let l : k < length pairs = omega (arith, r .long) in
         record {
           turns = omega arith;
           long = length-set pairs k _ ∙ r .long;
           reads = rw (add-one, take-suc-set pairs k _ l, r .reads, hp, he);
-          counts = rw (add-one, r .counts, hc .0, hp);
-          small = omega (arith, r .small, hc .1);
+          counts = rw (add-one, hc, r .counts, hp);
+          small = omega (arith, r .small);
         }
 
     pub all-read : 32 ≤ k → report-of 0 count pairs ≡ fileReport bytes at

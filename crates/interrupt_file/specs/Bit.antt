@@ -6,11 +6,11 @@ unfoldable pub bitAt : ℕ → ℕ → ℕ
 bitAt k v = v / 2 ^ k % 2
 
 -- v with bit k at 1: v itself where it is 1
-unfoldable pub raised : ℕ → ℕ → ℕ
+unfoldable pub withBit : ℕ → ℕ → ℕ
 unfolding bitAt
-raised k v = v + (1 - bitAt k v) * 2 ^ k
+withBit k v = v + (1 - bitAt k v) * 2 ^ k
 
 -- v with bit k at 0: v itself where it is 0
-unfoldable pub lowered : ℕ → ℕ → ℕ
+unfoldable pub withoutBit : ℕ → ℕ → ℕ
 unfolding bitAt
-lowered k v = v - bitAt k v * 2 ^ k
+withoutBit k v = v - bitAt k v * 2 ^ k

@@ -5,7 +5,7 @@ use mathlib.Core.List.{List}
 use lib.Dec.{eqb}
 use lib.ListN.{getD, set}
 use Rattle.memory.specs.Window.{inside}
-use Rattle.interrupt_file.specs.Bit.{bitAt, raised, lowered}
+use Rattle.interrupt_file.specs.Bit.{bitAt, withBit, withoutBit}
 
 -- 01: "A file is 512 bytes of the window at an address that is a multiple of 512"
 unfoldable pub isFile : ℕ → ℕ → ℕ → Bool
@@ -28,9 +28,9 @@ module _ (start : ℕ) (bytes : List ℕ) (file n : ℕ) where
 
   -- the bytes after a store, and after "A take clears the same bit"
   unfoldable pub afterStore : List ℕ
-  unfolding raised
-  afterStore = set bytes (placeOf file n - start) (raised (n % 8) (getD bytes (placeOf file n - start) 0))
+  unfolding withBit
+  afterStore = set bytes (placeOf file n - start) (withBit (n % 8) (getD bytes (placeOf file n - start) 0))
 
   unfoldable pub afterTake : List ℕ
-  unfolding lowered
-  afterTake = set bytes (placeOf file n - start) (lowered (n % 8) (getD bytes (placeOf file n - start) 0))
+  unfolding withoutBit
+  afterTake = set bytes (placeOf file n - start) (withoutBit (n % 8) (getD bytes (placeOf file n - start) 0))

@@ -4,7 +4,7 @@ ghost use mathlib.Core.Path.{_≡_};
 ghost use Prim.Native.Nat.{_+_, _/_, _%_, _≤_, _<_};
 ghost use lib.Count.{ones as onesOf};
 ghost use lib.ListN.{length, getD, set};
-ghost use Rattle.interrupt_file.specs.Bit.{bitAt, raised, lowered};
+ghost use Rattle.interrupt_file.specs.Bit.{bitAt, withBit, withoutBit};
 ghost use Rattle.interrupt_file.specs.File.{isFile, placeOf, pendingOf, afterStore, afterTake};
 ghost use Rattle.interrupt_file.specs.Report.{fileReport, refusedReport};
 
@@ -51,7 +51,7 @@ fn pending_at(start: u64, len: u64, file: u64, n: u64) -> usize
 // Sets bit k of a doubleword, which is bit k mod 8 of its byte k div 8.
 fn set_bit(part: &mut [u8], k: u64)
     requires { ⌜ (length (now part) ≡ 8) × (k < 64) ⌝ }
-    ensures { λ _. ⌜ now (part .exit) ≡ set (now (part .entry)) (k / 8) (raised (k % 8) (getD (now (part .entry)) (k / 8) 0)) ⌝ }
+    ensures { λ _. ⌜ now (part .exit) ≡ set (now (part .entry)) (k / 8) (withBit (k % 8) (getD (now (part .entry)) (k / 8) 0)) ⌝ }
 {
     let i = (k / 8) as usize;
     let b = part[i];
@@ -62,7 +62,7 @@ fn set_bit(part: &mut [u8], k: u64)
 fn clear_bit(part: &mut [u8], k: u64) -> u64
     requires { ⌜ (length (now part) ≡ 8) × (k < 64) ⌝ }
     ensures { λ r. ⌜ r ≡ bitAt (k % 8) (getD (now (part .entry)) (k / 8) 0) ⌝ }
-    ensures { λ _. ⌜ now (part .exit) ≡ set (now (part .entry)) (k / 8) (lowered (k % 8) (getD (now (part .entry)) (k / 8) 0)) ⌝ }
+    ensures { λ _. ⌜ now (part .exit) ≡ set (now (part .entry)) (k / 8) (withoutBit (k % 8) (getD (now (part .entry)) (k / 8) 0)) ⌝ }
 {
     let i = (k / 8) as usize;
     let b = part[i];

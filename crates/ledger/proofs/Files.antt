@@ -66,7 +66,7 @@ module _ (start len : ℕ) where
   files-all file h =
       let f = file-at h in
       from-all file (firstFile start) ((start + len - firstFile start) / 512) (f .aligned) first-aligned
-      (first-least file (f .aligned) (f .after)) (reach (start + len) (firstFile start) file (f .within))
+      (first-least file (f .aligned) (f .after)) (last-file (start + len) (firstFile start) file (f .within))
     where
-      reach : (end first file : ℕ) → file + 512 ≤ end → file < first + (end - first) / 512 * 512
-      reach end first file h = omega arith
+      last-file : (end first file : ℕ) → file + 512 ≤ end → file < first + (end - first) / 512 * 512
+      last-file end first file h = omega arith

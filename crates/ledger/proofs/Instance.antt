@@ -17,8 +17,8 @@ use Rattle.directory.specs.Pointers.{pointerOf, pointers, tooWide}
 use Rattle.directory.specs.Device.{deviceMisconfigured, deviceContextAt, deviceContextOf}
 use Rattle.directory.specs.Process.{processMisconfigured, processContextAt, processContextOf, processTable, firstTableOf}
 use Rattle.message.specs.Recognition.{recognised, packed, extract}
-use Rattle.message.specs.Table.{translateReserved, recordReserved, onNotice, onTranslate, onEntry, messageOf}
-use Rattle.interrupt_file.specs.Bit.{bitAt, raised, lowered}
+use Rattle.message.specs.Table.{translateReserved, recordReserved, onNotice, onTranslate, onMessageEntry, messageOf}
+use Rattle.interrupt_file.specs.Bit.{bitAt, withBit, withoutBit}
 use Rattle.interrupt_file.specs.File.{isFile, pendingOf, afterStore, afterTake}
 use Rattle.iommu.specs.declared.Answer.the-variants.{Taken}
 use Rattle.iommu.specs.declared.Numbers.{Numbers}
@@ -89,7 +89,7 @@ pub computed :
     × (accountAfter start bytes ops 0x40000200 0 ≡ account 1 1 0 0)
     × (accountAfter start bytes ops 0x40000000 0 ≡ account 0 0 0 1)
     × (accountAfter start bytes early 0x40000200 37 ≡ account 1 2 1 0)
-unfolding onesIn ones memory legalOf indexOf entryOf allows mappedBy onLoad levelOf levels walkOf secondStageOf firstStageOf pointerOf pointers tooWide deviceMisconfigured deviceContextAt deviceContextOf processMisconfigured processContextAt processContextOf processTable firstTableOf recognised packed extract translateReserved recordReserved onNotice onTranslate onEntry messageOf bitAt raised lowered isFile pendingOf afterStore afterTake badWindow requestRefusal takeRefusal untranslated isMessage guestOf stagesOf directoryOf translateOf storableAs finish requestOf afterRequest takeOf afterTakeOf history bytesAfter enteredAll accountOf start bytes early later ops
+unfolding onesIn ones memory legalOf indexOf entryOf allows mappedBy onLoad levelOf levels walkOf secondStageOf firstStageOf pointerOf pointers tooWide deviceMisconfigured deviceContextAt deviceContextOf processMisconfigured processContextAt processContextOf processTable firstTableOf recognised packed extract translateReserved recordReserved onNotice onTranslate onMessageEntry messageOf bitAt withBit withoutBit isFile pendingOf afterStore afterTake badWindow requestRefusal takeRefusal untranslated isMessage guestOf stagesOf directoryOf translateOf storableAs finish requestOf afterRequest takeOf afterTakeOf history bytesAfter enteredAll accountOf start bytes early later ops
 computed = (refl, refl, refl, refl, refl)
 
 -- the theorem of this list, with each kind of premise met

@@ -5,13 +5,14 @@ use mathlib.Core.Bool.{Bool, true, false, not}
 use mathlib.Core.List.{List, [], _∷_}
 use native.Mathlib.Omega.{arith}
 use lib.Bits.{or-lt}
+use lib.Pow.{pow-lt}
 use lib.ListN.{length, getD, set}
 use Rattle.memory.specs.Choice.{pick, unlessRefused}
-use Rattle.interrupt_file.specs.Bit.{raised, lowered}
+use Rattle.interrupt_file.specs.Bit.{withBit, withoutBit}
 use Rattle.interrupt_file.specs.File.{isFile, placeOf, pendingOf, afterStore, afterTake}
 use Rattle.interrupt_file.specs.Report.{fileReport}
 use Rattle.interrupt_file.specs.declared.Report.{Report}
-use Rattle.interrupt_file.proofs.Bits.{or-is}
+use Rattle.interrupt_file.proofs.Bits.{or-pow}
 use Rattle.interrupt_file.proofs.Files.{file-at}
 use Rattle.iommu.specs.declared.Answer.{Answer}
 use Rattle.iommu.specs.declared.Answer.the-variants.{Translated, Redirected, Stored, Discarded, Fault, Refused, Taken}
@@ -30,12 +31,12 @@ use Rattle.ledger.proofs.Reported.{pending-counted}
 abbrev pub Bytes : List ℕ → Type 0
 Bytes xs = (i : ℕ) → getD xs i 0 < 256
 
-raised-lt : (k v : ℕ) → k < 8 → v < 256 → raised k v < 256
-raised-lt k v l h = rw (← or-is k v l) (or-lt 8 v (1 * 2 ^ k % 256) h (omega arith))
+set-lt : (k v : ℕ) → k < 8 → v < 256 → withBit k v < 256
+set-lt k v l h = rw (← or-pow k v) (or-lt 8 v (2 ^ k) h (pow-lt l))
 
-lowered-lt : (k v : ℕ) → v < 256 → lowered k v < 256
-unfolding lowered
-lowered-lt k v h = omega arith
+cleared-lt : (k v : ℕ) → v < 256 → withoutBit k v < 256
+unfolding withoutBit
+cleared-lt k v h = omega arith
 
 set-bytes : (xs : List ℕ) (i v : ℕ) → v < 256 → Bytes xs → Bytes (set xs i v)
 set-bytes [] i v l h j = h j
@@ -47,11 +48,11 @@ set-bytes (x ∷ xs) (suc i) v l h (suc j) = set-bytes xs i v l (λ k. h (suc k)
 module _ (start : ℕ) where
   store-bytes : (bytes : List ℕ) (file n : ℕ) → Bytes bytes → Bytes (afterStore start bytes file n)
   unfolding afterStore
-  store-bytes bytes file n h = set-bytes bytes _ _ (raised-lt (n % 8) _ (omega arith) (h (placeOf file n - start))) h
+  store-bytes bytes file n h = set-bytes bytes _ _ (set-lt (n % 8) _ (omega arith) (h (placeOf file n - start))) h
 
   take-bytes : (bytes : List ℕ) (file n : ℕ) → Bytes bytes → Bytes (afterTake start bytes file n)
   unfolding afterTake
-  take-bytes bytes file n h = set-bytes bytes _ _ (lowered-lt (n % 8) _ (h (placeOf file n - start))) h
+  take-bytes bytes file n h = set-bytes bytes _ _ (cleared-lt (n % 8) _ (h (placeOf file n - start))) h
 
   call-bytes : (bytes : List ℕ) (o : Op) → Bytes bytes → Bytes (afterOf start bytes o)
   unfolding afterRequest afterTakeOf

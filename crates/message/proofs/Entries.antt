@@ -1,63 +1,51 @@
 -- The ways through alignment, an entry and a message, over plain values. Assumes nothing.
 use Prim.Native.Nat.{ℕ, _+_, _*_, _/_, _%_, _^_, _≤_, _<_}
 use mathlib.Core.Bool.{Bool, true, false, not}
-use mathlib.Core.List.{[], _∷_}
-use mathlib.Core.Path.{_≡_, refl, sym, ap, _∙_}
+use mathlib.Core.Path.{_≡_, sym, ap, _∙_}
 use native.Mathlib.Omega.{arith}
 use borrow.Author.Tests.{eq-eqb, ne-eqb, not-true, not-false}
 use lib.Count.{ones, ones-le}
 use lib.Dec.{eqb}
 use lib.Pow.{pow-mono}
-use Rattle.memory.specs.Choice.{pick, any}
-use Rattle.memory.specs.Bits.{bits}
+use Rattle.memory.specs.Bits.{bits, bit}
 use Rattle.memory.specs.Walk.{Walk, run, done, onValue, loadOr}
 use Rattle.memory.specs.declared.Load.{Load}
 use Rattle.memory.specs.declared.Load.the-variants.{Value, Violation}
 use Rattle.memory.proofs.Choices.{no-by}
 use Rattle.memory.proofs.Walks.{loads, at}
 use Rattle.causes.specs.declared.Access.{Access}
-use Rattle.causes.specs.declared.Access.the-variants.{Execute}
 use Rattle.message.specs.declared.Destination.{Destination}
 use Rattle.message.specs.declared.Message.{Message}
-use Rattle.message.specs.declared.Message.the-variants.{Record}
+use Rattle.message.specs.declared.Message.the-variants.{Redirect, Record}
 use Rattle.message.specs.Recognition.{extract}
-use Rattle.message.specs.Table.{tableFault, alignment, permitted, recordReserved, destinationOf, onTranslate, onNotice, onEntry, messageOf}
+use Rattle.message.specs.Table.{tableFault, alignment, permitted, translateReserved, recordReserved, destinationOf, onTranslate, onNotice, onMessageEntry, messageOf}
 
 -- k ones ask for 16 x 2^k bytes, which a doubleword holds
-module _ (page mask : ℕ) (h : mask < 2 ^ 52) where
-  size-fits : 2 ^ ones mask ≤ 2 ^ 52
-  size-fits = pow-mono (ones-le 52 mask h)
+pub size-fits : (mask : ℕ) → mask < 2 ^ 52 → 2 ^ ones mask ≤ 2 ^ 52
+size-fits mask h = pow-mono (ones-le 52 mask h)
 
-  pub few-files : 16 * 2 ^ ones mask % 2 ^ 64 < 4096 → true ≡ eqb (page * 4096 % alignment mask) 0
+module _ (page mask size : ℕ) (hs : size ≡ 16 * 2 ^ ones mask) where
+  pub few-files : size < 4096 → true ≡ eqb (page * 4096 % alignment mask) 0
   few-files l =
-      let m : alignment mask ≡ 4096 = omega (arith, size-fits) in rw m (sym (eq-eqb (page * 4096 % 4096) 0 (omega arith)))
+      let m : alignment mask ≡ 4096 = omega arith in rw m (sym (eq-eqb (page * 4096 % 4096) 0 (omega arith)))
 
-  pub many-files : 4096 ≤ 16 * 2 ^ ones mask % 2 ^ 64 → eqb (page * 4096 % (16 * 2 ^ ones mask % 2 ^ 64)) 0 ≡ eqb (page * 4096 % alignment mask) 0
+  pub many-files : 4096 ≤ size → eqb (page * 4096 % size) 0 ≡ eqb (page * 4096 % alignment mask) 0
   many-files l =
-      let m : 16 * 2 ^ ones mask % 2 ^ 64 ≡ alignment mask = omega (arith, size-fits) in rw m
+      let m : size ≡ alignment mask = omega arith in rw m
 
--- a list of fields that must be 0, one a test
-pub field-set : (f : ℕ) (rest : Bool) → (f ≡ 0 → ⊥) → true ≡ pick (not (eqb f 0)) true rest
-field-set f rest h = simp (ne-eqb f 0 h)
-
-pub field-clear : (f : ℕ) (b rest : Bool) → f ≡ 0 → b ≡ rest → b ≡ pick (not (eqb f 0)) true rest
-field-clear f b rest h p = simp (eq-eqb f 0 h) p
-
-pub last-field : (b : Bool) → b ≡ any (b ∷ [])
-last-field true = refl
-last-field false = refl
-
-pub ruleset fields = (field-set, field-clear, last-field)
-
-pub not-executed : (x : Access) (m r : Message) → x ≡ Execute → r ≡ tableFault 1 → r ≡ permitted x m
-not-executed x m r e p = p ∙ sym (ap (λ t. permitted t m) e)
+pub by-access : (x y : Access) (m r : Message) → x ≡ y → r ≡ permitted y m → r ≡ permitted x m
+by-access x y m r e p = p ∙ sym (ap (λ t. permitted t m) e)
 
 abbrev destined-as : ℕ → ℕ → ℕ → Destination
 destined-as f p k = record { file = f; notice = p; number = k }
 
 -- a notice number's bit 10 stands at bit 60
-pub destined : (e n k : ℕ) → k ≡ bits n 9 0 + 1024 * bits n 60 60 → destined-as (bits e 53 7 * 512) (bits n 53 10 * 4096) k ≡ destinationOf e n
-destined e n k h = ap (destined-as (bits e 53 7 * 512) (bits n 53 10 * 4096)) h
+pub destined : (e n f p k : ℕ) → f ≡ bits e 53 7 * 512 → p ≡ bits n 53 10 * 4096 → k ≡ bits n 9 0 + 1024 * bits n 60 60 → destined-as f p k ≡ destinationOf e n
+destined e n f p k hf hp hk = rw (hf, hp, hk)
+
+pub redirects : (x : Access) (a e page : ℕ) (bad : Bool) (r : Message) → bad ≡ translateReserved e → bad ≡ false → page ≡ bits e 53 10 → r ≡ permitted x (Redirect (page * 4096 + a % 4096)) → r ≡ onTranslate x a e
+unfolding onTranslate
+redirects x a e page bad r h t q p = no-by _ bad r _ _ h t (p ∙ ap (λ k. permitted x (Redirect (k * 4096 + a % 4096))) q)
 
 pub recorded : (x : Access) (e n : ℕ) (bad : Bool) (d : Destination) (r : Message) → bad ≡ recordReserved e n → bad ≡ false → d ≡ destinationOf e n → r ≡ permitted x (Record d) → r ≡ onNotice x e n
 unfolding onNotice
@@ -67,43 +55,40 @@ recorded x e n bad d r h t e′ p = no-by _ bad r _ _ h t (p ∙ ap (λ k. permi
 read-as : (m : ℕ → Load) (a : ℕ) (k : ℕ → Walk Message) {v w : Load} {r : Message} → v ≡ m a → v ≡ w → r ≡ run m (onValue (done (tableFault 261)) k w) → r ≡ run m (loadOr (done (tableFault 261)) a k)
 read-as m a k h e p = loads m a (onValue (done (tableFault 261)) k) h (at m (onValue (done (tableFault 261)) k) e p)
 
--- each answer of an entry
-module _ (m : ℕ → Load) (x : Access) (a place e : ℕ) (r : Message) where
-  pub not-valid : (e % 2 ≡ 1 → ⊥) → r ≡ tableFault 262 → r ≡ run m (onEntry x a place e)
-  unfolding onEntry
-  not-valid h p = simp (ne-eqb (e / 1 % 2) 1 (λ q. h (omega arith))) p
+-- each answer of an entry, by its bits V and C and its mode
+module _ (m : ℕ → Load) (x : Access) (a place e : ℕ) (r : Message) (v : Bool) (hv : v ≡ bit e 0) where
+  pub not-valid : not v ≡ true → r ≡ tableFault 262 → r ≡ run m (onMessageEntry x a place e)
+  unfolding onMessageEntry
+  not-valid t p = simp (sym hv ∙ not-true v t) p
 
-  module _ (v : e % 2 ≡ 1) where
-    valid : eqb (e / 1 % 2) 1 ≡ true
-    valid = eq-eqb (e / 1 % 2) 1 (omega arith)
+  module _ (t : not v ≡ false) (c : Bool) (hc : c ≡ bit e 63) where
+    valid : bit e 0 ≡ true
+    valid = sym hv ∙ not-false v t
 
-    pub custom : e / 2 ^ 63 % 2 ≡ 1 → r ≡ tableFault 263 → r ≡ run m (onEntry x a place e)
-    unfolding onEntry
-    custom h p = simp (valid, eq-eqb (e / 2 ^ 63 % 2) 1 h) p
+    pub custom : c ≡ true → r ≡ tableFault 263 → r ≡ run m (onMessageEntry x a place e)
+    unfolding onMessageEntry
+    custom h p = simp (valid, sym hc ∙ h) p
 
-    module _ (s : e / 2 ^ 63 % 2 ≡ 1 → ⊥) where
-      standard : eqb (e / 2 ^ 63 % 2) 1 ≡ false
-      standard = ne-eqb (e / 2 ^ 63 % 2) 1 s
+    module _ (s : c ≡ false) (mode : ℕ) (hm : mode ≡ bits e 2 1) where
+      standard : bit e 63 ≡ false
+      standard = sym hc ∙ s
 
-      pub translates : e / 2 % 4 ≡ 3 → r ≡ onTranslate x a e → r ≡ run m (onEntry x a place e)
-      unfolding onEntry
-      translates h p = simp (valid, standard, eq-eqb (e / 2 % 4) 3 h) p
+      pub translates : mode ≡ 3 → r ≡ onTranslate x a e → r ≡ run m (onMessageEntry x a place e)
+      unfolding onMessageEntry
+      translates h p = simp (valid, standard, sym hm ∙ h) p
 
-      pub other-mode : (e / 2 % 4 ≡ 3 → ⊥) → (e / 2 % 4 ≡ 1 → ⊥) → r ≡ tableFault 263 → r ≡ run m (onEntry x a place e)
-      unfolding onEntry
-      other-mode h k p = simp (valid, standard, ne-eqb (e / 2 % 4) 3 h, ne-eqb (e / 2 % 4) 1 k) p
+      pub other-mode : (mode ≡ 3 → ⊥) → (mode ≡ 1 → ⊥) → r ≡ tableFault 263 → r ≡ run m (onMessageEntry x a place e)
+      unfolding onMessageEntry
+      other-mode h k p = simp (valid, standard, ← hm, ne-eqb mode 3 h, ne-eqb mode 1 k) p
 
-      module _ (k : e / 2 % 4 ≡ 1) (w : Load) (hw : w ≡ m (place + 8)) where
-        not-three : eqb (e / 2 % 4) 3 ≡ false
-        not-three = ne-eqb (e / 2 % 4) 3 (λ q. omega arith)
+      module _ (k : mode ≡ 1) (w : Load) (hw : w ≡ m (place + 8)) where
+        pub no-notice : w ≡ Violation → r ≡ tableFault 261 → r ≡ run m (onMessageEntry x a place e)
+        unfolding onMessageEntry
+        no-notice h p = simp (valid, standard, sym hm ∙ k) (read-as m (place + 8) (λ n. done (onNotice x e n)) hw h p)
 
-        pub no-notice : w ≡ Violation → r ≡ tableFault 261 → r ≡ run m (onEntry x a place e)
-        unfolding onEntry
-        no-notice h p = simp (valid, standard, not-three, eq-eqb (e / 2 % 4) 1 k) (read-as m (place + 8) (λ n. done (onNotice x e n)) hw h p)
-
-        pub records : (n : ℕ) → w ≡ Value n → r ≡ onNotice x e n → r ≡ run m (onEntry x a place e)
-        unfolding onEntry
-        records n h p = simp (valid, standard, not-three, eq-eqb (e / 2 % 4) 1 k) (read-as m (place + 8) (λ n. done (onNotice x e n)) hw h p)
+        pub records : (n : ℕ) → w ≡ Value n → r ≡ onNotice x e n → r ≡ run m (onMessageEntry x a place e)
+        unfolding onMessageEntry
+        records n h p = simp (valid, standard, sym hm ∙ k) (read-as m (place + 8) (λ n. done (onNotice x e n)) hw h p)
 
 pub ruleset entries = (not-valid, custom, translates, other-mode, no-notice, records)
 
@@ -116,10 +101,10 @@ module _ (m : ℕ → Load) (page mask : ℕ) (x : Access) (a : ℕ) (r : Messag
   module _ (t : not ok ≡ false) (number : ℕ) (hn : number ≡ extract (a / 4096) mask) (w : Load) (hw : w ≡ m (page * 4096 + 16 * number)) where
     pub no-entry : w ≡ Violation → r ≡ tableFault 261 → r ≡ run m (messageOf page mask x a)
     unfolding messageOf
-    no-entry h p = simp (sym hok ∙ not-false ok t, ← hn) (read-as m (page * 4096 + 16 * number) (onEntry x a (page * 4096 + 16 * number)) hw h p)
+    no-entry h p = simp (sym hok ∙ not-false ok t, ← hn) (read-as m (page * 4096 + 16 * number) (onMessageEntry x a (page * 4096 + 16 * number)) hw h p)
 
-    pub enters : (e : ℕ) → w ≡ Value e → r ≡ run m (onEntry x a (page * 4096 + 16 * number) e) → r ≡ run m (messageOf page mask x a)
+    pub enters : (e : ℕ) → w ≡ Value e → r ≡ run m (onMessageEntry x a (page * 4096 + 16 * number) e) → r ≡ run m (messageOf page mask x a)
     unfolding messageOf
-    enters e h p = simp (sym hok ∙ not-false ok t, ← hn) (read-as m (page * 4096 + 16 * number) (onEntry x a (page * 4096 + 16 * number)) hw h p)
+    enters e h p = simp (sym hok ∙ not-false ok t, ← hn) (read-as m (page * 4096 + 16 * number) (onMessageEntry x a (page * 4096 + 16 * number)) hw h p)
 
 pub ruleset messages = (misaligned, no-entry, enters)

@@ -2,14 +2,14 @@
 use Prim.Native.Nat.{ℕ, zero, suc, _+_, _-_, _*_, _/_, _%_, _^_, _≤_, _<_}
 use mathlib.Core.Path.{_≡_, refl, sym, ap, _∙_}
 use mathlib.Core.Logic.{⊎-elim}
-use native.Mathlib.Nat.{mul-zero, mul-add, mul-assoc, mul-comm, pow-suc, mod-lt, sub-zero, mul-div-cancel, eq-zero-or-pos, eq-or-lt-of-le}
+use native.Mathlib.Nat.{div-le-self, mul-zero, mul-add, mul-assoc, mul-comm, pow-suc, mod-lt, sub-zero, mul-div-cancel, eq-zero-or-pos, eq-or-lt-of-le}
 use native.Mathlib.Omega.{arith}
-use lib.Bits.{bitAnd, and-le-l, and-high}
+use lib.Bits.{bitAnd, and-le-l, and-le-r, and-high}
 use lib.Count.{ones, ones-cat, ones-le, trailingZeros, trailing-of-zero}
 use lib.Pow.{pow-pos, pow-add, pow-mono, split}
 use Rattle.message.specs.Recognition.{packed, extract}
 use Rattle.message.specs.declared.Packing.{Packing}
-use Rattle.message.specs.Rounds.{startOf, endOf, roundOf, Ready, beginning, rounds, Packs}
+use Rattle.message.specs.Code.{startOf, endOf, roundOf, Ready, beginning, rounds, Packs}
 use Rattle.message.proofs.Runs.{parity, halved, packed-even, packed-odd, after, Lowest, lowest}
 
 -- no more than n bits are packed
@@ -162,7 +162,7 @@ module _ (x : ℕ) (p : Packing) (h : Ready x p) where
   abbrev over : ℕ
   over = p .rest + 1 * 2 ^ s % 2 ^ 64
 
-  one-fits : 2 ^ s ≤ 2 ^ 52
+  pub one-fits : 2 ^ s ≤ 2 ^ 52
   one-fits = pow-mono {i = s} {j = 52} (omega (arith, start-below))
 
   over-is : over ≡ p .rest + 2 ^ s
@@ -188,11 +188,15 @@ module _ (x : ℕ) (p : Packing) (h : Ready x p) where
   moved =
       let v = x / 2 ^ s % 2 ^ (e - s) in
       let top : e - s + s ≡ e = omega (arith, end-above) in
-      let mask : p .rest - after (p .rest) s e ≡ 2 ^ (e - s + s) - 2 ^ s = rw top (omega (arith, run-of .0 .inside, pow-mono end-above)) in
+      let mask : p .rest - after (p .rest) s e ≡ 2 ^ (e - s + s) - 2 ^ s = rw top (omega (arith, run-of .0 .stands, pow-mono end-above)) in
       let gap : p .used + (s - p .used) ≡ s = omega (arith, h .2) in
       let lower : 2 ^ s ≡ 2 ^ p .used * 2 ^ (s - p .used) = ap (λ k. 2 ^ k) (sym gap) ∙ pow-add 2 (p .used) (s - p .used) in
       let value : v * 2 ^ s ≡ 2 ^ p .used * v * 2 ^ (s - p .used) = ap (λ k. v * k) lower ∙ sym (mul-assoc v (2 ^ p .used) (2 ^ (s - p .used))) ∙ ap (λ k. k * 2 ^ (s - p .used)) (mul-comm v (2 ^ p .used)) in
       rw (mask, and-high x (e - s) s, value) (mul-div-cancel (2 ^ p .used * v) (pow-pos (s - p .used)))
+
+  -- no sum of the number and a part of x wraps
+  pub sum-fits : (m k : ℕ) → m < 2 ^ 63 → p .number + bitAnd x m / 2 ^ k < 2 ^ 64
+  sum-fits m k l = omega (arith, and-le-r x m, div-le-self (bitAnd x m) (2 ^ k), h .3)
 
   pub number-is : p .number + bitAnd x (p .rest - bitAnd (p .rest) over) / 2 ^ (s - p .used) ≡ roundOf x p .number
   number-is = rw (rest-is, moved)
@@ -200,17 +204,21 @@ module _ (x : ℕ) (p : Packing) (h : Ready x p) where
   pub used-is : p .used + (trailingZeros 64 over - s) ≡ roundOf x p .used
   used-is = rw over-is
 
+  -- the parts of a round
+  pub round-is : (number used rest : ℕ) → number ≡ roundOf x p .number → used ≡ roundOf x p .used → rest ≡ roundOf x p .rest → record { number = number; used = used; rest = rest } ≡ roundOf x p
+  round-is number used rest n u r = rw (n, u, r)
+
 -- a packing with so many rounds left of as many as the mask has ones, none of those done in vain
 pub record Counting (x mask left : ℕ) (p : Packing) : Type 0 where
   pub so-far : p ≡ rounds (ones mask - left) x mask
   pub needed : (n : ℕ) → n < ones mask - left → 0 < rounds n x mask .rest
   pub within : left ≤ ones mask
 
-pub begins : (x mask : ℕ) → Counting x mask (ones mask) (beginning mask)
+pub begins : (x mask rest : ℕ) → rest ≡ mask % 2 ^ 52 → Counting x mask (ones mask) (record { number = 0; used = 0; rest = rest })
 unfolding rounds
-begins x mask =
+begins x mask rest e =
     let none-done : ones mask - ones mask ≡ 0 = omega arith in
-    record { so-far = rw none-done; needed = λ n h. absurd (omega arith); within = omega arith }
+    record { so-far = rw (none-done, e); needed = λ n h. absurd (omega arith); within = omega arith }
 
 module _ {x mask left : ℕ} {p : Packing} (k : Counting x mask left p) where
   partial : Partial x mask (ones mask - (ones mask - left)) p
@@ -221,7 +229,7 @@ module _ {x mask left : ℕ} {p : Packing} (k : Counting x mask left p) where
     some = omega arith
 
     pub ready : Ready x p
-    ready = (some, partial .small, partial .room, omega (arith, whole (turned partial), extract-below x mask))
+    ready = (some, partial .small, partial .room, omega (arith, whole partial, extract-below x mask))
 
     -- the round that is done now is needed too
     needed-now : (n : ℕ) → n < ones mask - (left - 1) → 0 < rounds n x mask .rest
@@ -241,10 +249,12 @@ module _ {x mask left : ℕ} {p : Packing} (k : Counting x mask left p) where
           within = omega (arith, k .within);
         }
 
-  pub stops : p .rest ≡ 0 → Packs x mask (record { number = p .number; rounds = ones mask - left })
-  stops e = (done partial e, rw (k .so-far) at e, k .needed, omega arith)
+  stopped : p .rest ≡ 0 → Packs x mask (record { number = p .number; rounds = ones mask - left })
+  stopped e = (done partial e, rw (k .so-far) at e, k .needed, omega arith)
+
+  pub stops : p .rest ≡ 0 → (n : ℕ) → n ≡ ones mask - left → Packs x mask (record { number = p .number; rounds = n })
+  stops e n h = rw h (stopped e)
 
   pub ends : left ≤ 0 → Packs x mask (record { number = p .number; rounds = ones mask })
   ends h =
-      let all : ones mask - left ≡ ones mask = omega arith in
-      rw all at (stops (emptied partial (omega arith)))
+      stops (emptied partial (omega arith)) (ones mask) (omega arith)

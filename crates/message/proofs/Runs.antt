@@ -26,7 +26,7 @@ after y s e = y + 2 ^ s - 2 ^ e
 pub record Run (n k x y s e : ℕ) : Type 0 where
   pub bound : e ≤ n
   pub order : s ≤ e
-  pub inside : 2 ^ e ≤ y + 2 ^ s
+  pub stands : 2 ^ e ≤ y + 2 ^ s
   pub packing : packed n x y ≡ x / 2 ^ s % 2 ^ (e - s) + 2 ^ (e - s) * packed n x (after y s e)
   pub count : ones y ≡ (e - s) + ones (after y s e)
   pub meet : bitAnd y (y + 2 ^ s) ≡ after y s e
@@ -69,7 +69,7 @@ none n k x y h =
     record {
       bound = omega arith;
       order = omega arith;
-      inside = omega arith;
+      stands = omega arith;
       packing = rw same (omega arith);
       count = rw same (omega arith);
       meet = rw same (and-step y (y + 1) ∙ rw (up, and-self) (omega arith));
@@ -82,15 +82,15 @@ below n k x y s e h r =
     let ps = pow-suc 2 s in
     let pe = pow-suc 2 e in
     let left = after y (suc s) (suc e) in
-    let even : left % 2 ≡ 0 = omega (arith, ps, pe, r .inside) in
-    let half : left / 2 ≡ after (y / 2) s e = omega (arith, ps, pe, r .inside) in
+    let even : left % 2 ≡ 0 = omega (arith, ps, pe, r .stands) in
+    let half : left / 2 ≡ after (y / 2) s e = omega (arith, ps, pe, r .stands) in
     let carried : (y + 2 ^ suc s) / 2 ≡ y / 2 + 2 ^ s = omega (arith, ps) in
     let apart : suc e - suc s ≡ e - s = omega arith in
     let part : x / 2 ^ suc s ≡ x / 2 / 2 ^ s = ap (λ d. x / d) (ps ∙ mul-comm (2 ^ s) 2) ∙ sym (div-div-eq-div-mul x 2 (2 ^ s)) in
     record {
       bound = omega (arith, r .bound);
       order = omega (arith, r .order);
-      inside = omega (arith, ps, pe, r .inside);
+      stands = omega (arith, ps, pe, r .stands);
       packing = packed-even y h n x ∙ r .packing ∙ rw (apart, part, packed-even left even n x, half);
       count = ones-even y h ∙ r .count ∙ rw (apart, ones-even left even, half);
       meet = and-even (y + 2 ^ suc s) (omega (arith, ps)) y ∙ rw (carried, r .meet) (omega (arith, half, even));
@@ -111,13 +111,13 @@ beside : (n k x y e : ℕ) → y % 2 ≡ 1 → Run n k (x / 2) (y / 2) 0 e → R
 beside n k x y e h r =
     let pe = pow-suc 2 e in
     let left = after y 0 (suc e) in
-    let even : left % 2 ≡ 0 = omega (arith, pe, r .inside) in
-    let half : left / 2 ≡ after (y / 2) 0 e = omega (arith, pe, r .inside) in
+    let even : left % 2 ≡ 0 = omega (arith, pe, r .stands) in
+    let half : left / 2 ≡ after (y / 2) 0 e = omega (arith, pe, r .stands) in
     let carried : (y + 2 ^ 0) / 2 ≡ y / 2 + 2 ^ 0 = omega arith in
     record {
       bound = omega (arith, r .bound);
       order = omega arith;
-      inside = omega (arith, pe, r .inside);
+      stands = omega (arith, pe, r .stands);
       packing = packed-odd y h n x ∙ rw (r .packing, packed-even left even n x, half) (digit x e _);
       count = ones-odd y h ∙ rw (r .count, ones-even left even, half) (omega arith);
       meet = and-even (y + 2 ^ 0) (omega arith) y ∙ rw (carried, r .meet) (omega (arith, half, even));

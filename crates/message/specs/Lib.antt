@@ -1,3 +1,3 @@
 pub mod Recognition
-pub mod Rounds
+pub mod Code
 pub mod Table

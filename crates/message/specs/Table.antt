@@ -59,8 +59,8 @@ unfoldable pub onTranslate : Access → ℕ → ℕ → Message
 onTranslate x a e = pick (translateReserved e) (tableFault 263) (permitted x (Redirect (redirected e a)))
 
 -- "V = 0 262; C = 1, M = 0 or 2, or a reserved bit 263". The second doubleword is read for M = 1 alone (D13)
-unfoldable pub onEntry : Access → ℕ → ℕ → ℕ → Walk Message
-onEntry x a at e =
+unfoldable pub onMessageEntry : Access → ℕ → ℕ → ℕ → Walk Message
+onMessageEntry x a at e =
     pick (bit e 0)
     (pick (bit e 63)
     (done (tableFault 263))
@@ -72,12 +72,12 @@ onEntry x a at e =
     (done (tableFault 262))
 
 -- "The entry is 16 bytes at table + 16 x number"
-abbrev pub entryAt : ℕ → ℕ → ℕ → ℕ
-entryAt page mask a = page * 4096 + 16 * fileNumber mask a
+abbrev pub messageEntryAt : ℕ → ℕ → ℕ → ℕ
+messageEntryAt page mask a = page * 4096 + 16 * fileNumber mask a
 
 -- a message to guest address a, by the table at a page: "misaligned is answered 263 without a load"; "Load 261"
 unfoldable pub messageOf : ℕ → ℕ → Access → ℕ → Walk Message
 messageOf page mask x a =
     pick (eqb (page * 4096 % alignment mask) 0)
-    (loadOr (done (tableFault 261)) (entryAt page mask a) (onEntry x a (entryAt page mask a)))
+    (loadOr (done (tableFault 261)) (messageEntryAt page mask a) (onMessageEntry x a (messageEntryAt page mask a)))
     (done (tableFault 263))

@@ -9,8 +9,8 @@ ghost use lib.Dec.{eqb};
 ghost use Rattle.memory.specs.Window.{memory};
 ghost use Rattle.memory.specs.Walk.{run};
 ghost use Rattle.message.specs.Recognition.{recognised as recognisedOf, extract as extractOf};
-ghost use Rattle.message.specs.Rounds.{Ready, roundOf, Packs};
-ghost use Rattle.message.specs.Table.{alignment, tableFault, permitted as permittedOf, translateReserved, recordReserved, destinationOf, onTranslate, onNotice, onEntry, messageOf};
+ghost use Rattle.message.specs.Code.{Ready, roundOf, Packs};
+ghost use Rattle.message.specs.Table.{alignment, tableFault, permitted as permittedOf, translateReserved, recordReserved, destinationOf, onTranslate, onNotice, onMessageEntry, messageOf};
 
 // Where an entry in MRIF mode has a message recorded, and the notice that it asks for: a number to be written at an address.
 pub struct Destination {
@@ -73,7 +73,7 @@ fn pack(x: u64, mask: u64) -> Counted
     let mut p = Packing {
         number: 0,
         used: 0,
-        rest: mask % 4503599627370496,
+        rest: memory::field(mask, 51, 0),
     };
     while 0 < left {
         if p.rest == 0 {
@@ -135,26 +135,17 @@ fn permitted(x: Access, m: Message) -> Message
 fn translate_reserved(e: u64) -> bool
     ensures { λ r. ⌜ r ≡ translateReserved e ⌝ }
 {
-    if e / 8 % 128 != 0 {
-        return true;
-    }
-    e / 18014398509481984 % 512 != 0
+    memory::any_set(e, 9, 3) | memory::any_set(e, 62, 54)
 }
 
 // Bits 6:3 and 62:54 of the first doubleword, 59:54 and 63:61 of the second.
 fn record_reserved(e: u64, n: u64) -> bool
     ensures { λ r. ⌜ r ≡ recordReserved e n ⌝ }
 {
-    if e / 8 % 16 != 0 {
-        return true;
-    }
-    if e / 18014398509481984 % 512 != 0 {
-        return true;
-    }
-    if n / 18014398509481984 % 64 != 0 {
-        return true;
-    }
-    n / 2305843009213693952 % 8 != 0
+    memory::any_set(e, 6, 3)
+        | memory::any_set(e, 62, 54)
+        | memory::any_set(n, 59, 54)
+        | memory::any_set(n, 63, 61)
 }
 
 // The file's address in bits 53:7; the notice's page in bits 53:10 and its number in bits 9:0 and, for bit 10, in bit 60.
@@ -162,9 +153,9 @@ fn destination_of(e: u64, n: u64) -> Destination
     ensures { λ r. ⌜ r ≡ destinationOf e n ⌝ }
 {
     Destination {
-        file: e / 128 % 140737488355328 * 512,
-        notice: n / 1024 % 17592186044416 * 4096,
-        number: n % 1024 + 1024 * (n / 1152921504606846976 % 2),
+        file: memory::field(e, 53, 7) * 512,
+        notice: memory::field(n, 53, 10) * 4096,
+        number: memory::field(n, 9, 0) + 1024 * memory::field(n, 60, 60),
     }
 }
 
@@ -177,7 +168,7 @@ fn on_translate(x: Access, a: u64, e: u64) -> Message
     }
     permitted(
         x,
-        Message::Redirect(e / 1024 % 17592186044416 * 4096 + a % 4096),
+        Message::Redirect(memory::field(e, 53, 10) * 4096 + a % 4096),
     )
 }
 
@@ -192,17 +183,17 @@ fn on_notice(x: Access, e: u64, n: u64) -> Message
 }
 
 // What an entry says; the second doubleword is read in MRIF mode alone.
-fn on_entry(x: Access, a: u64, start: u64, window: &[u8], at: u64, e: u64) -> Message
+fn on_message_entry(x: Access, a: u64, start: u64, window: &[u8], at: u64, e: u64) -> Message
     requires { ⌜ at < 2 ^ 57 ⌝ }
-    ensures { λ r. ⌜ r ≡ run (memory start (now (window .entry))) (onEntry x a at e) ⌝ }
+    ensures { λ r. ⌜ r ≡ run (memory start (now (window .entry))) (onMessageEntry x a at e) ⌝ }
 {
-    if e % 2 != 1 {
+    if !memory::bit(e, 0) {
         return table_fault(262);
     }
-    if e / 9223372036854775808 % 2 == 1 {
+    if memory::bit(e, 63) {
         return table_fault(263);
     }
-    let mode = e / 2 % 4;
+    let mode = memory::field(e, 2, 1);
     if mode == 3 {
         return on_translate(x, a, e);
     }
@@ -227,5 +218,5 @@ pub fn message_of(page: u64, mask: u64, x: Access, start: u64, window: &[u8], a:
     let Load::Value(e) = memory::load64(start, window, at) else {
         return table_fault(261);
     };
-    on_entry(x, a, start, window, at, e)
+    on_message_entry(x, a, start, window, at, e)
 }

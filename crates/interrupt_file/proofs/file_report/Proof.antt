@@ -19,7 +19,7 @@ loop-holds c = none-read _ _ _ refl
 loop-again : tie.Need-loop-again Inv-loop μ-loop
 loop-again c =
     let d = c .before .before in
-    one-more _ _ (d .before .before .loop .inv) _ _ _ (omega arith) (d .doubleword-at .ensures) (c .before .doubleword-at2 .ensures) (c .ones .ensures)
+    one-more _ _ (d .before .before .loop .inv) _ _ _ (omega arith) (d .doubleword-at .ensures) (c .before .doubleword-at2 .ensures) (omega (arith, c .ones .ensures)) (omega (arith, c .ones .ensures))
 
 returns : tie.Need-returns Inv-loop μ-loop
 returns c = all-read _ _ (c .before .loop .inv) (c .loop-test .left)

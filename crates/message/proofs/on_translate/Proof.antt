@@ -1,17 +1,14 @@
 -- `message::on_translate` meets its contract, by whether a reserved bit is set. Assumes nothing.
-use borrow.Author.Needs.{needs}
 use Rattle.message.specs.Table.{onTranslate}
 use Rattle.memory.proofs.Choices.{flags}
+use Rattle.message.proofs.Entries.{redirects}
+use borrow.Author.Needs.{needs}
 use Rattle.message.proofs.on_translate.Statement.{statement}
 use Rattle.message.proofs.on_translate.Tie as tie
 
 returns : tie.Need-returns
 unfolding onTranslate
 returns c = search (flags, needs)
-
-returns-2 : tie.Need-returns-2
-unfolding onTranslate
-returns-2 c = search (flags, needs)
 
 pub on-translate-spec : {M : Type 1} → statement M
 on-translate-spec =
@@ -20,7 +17,8 @@ on-translate-spec =
     (λ c κs. search needs)
     (λ c κs. search needs)
     returns
+    (λ c κs. search needs)
     (λ c. search needs)
     (λ c. search needs)
     (λ c κs. search needs)
-    returns-2)
+    (λ c. search (redirects, needs)))

@@ -1,5 +1,6 @@
 -- `message::pack` meets its contract: after each turn of the loop the packing is that of the rounds done, and they are no more than the mask's ones. Assumes nothing.
 use native.Mathlib.Omega.{arith}
+use borrow.Author.Needs.{needs}
 use Rattle.message.proofs.Rounds.{Counting, begins, ready, again, stops, ends}
 use Rattle.message.proofs.pack.Statement.{statement}
 use Rattle.message.proofs.pack.Tie as tie
@@ -11,13 +12,13 @@ abbrev μ-loop : tie.MeasureT-loop
 μ-loop x mask most left₀ p₀ left p = left
 
 loop-holds : tie.Need-loop-holds Inv-loop μ-loop
-loop-holds c = begins _ _
+loop-holds c = begins _ _ _ (omega arith)
 
 sub-t8 : tie.Need-sub-t8 Inv-loop μ-loop
 sub-t8 c = omega (arith, c .before .before .before .loop .inv .within)
 
 returns : tie.Need-returns Inv-loop μ-loop
-returns c = stops (c .before .before .before .loop .inv) (c .if1 .taken)
+returns c = stops (c .before .before .before .loop .inv) (c .if1 .taken) _ (omega arith)
 
 round-requires : tie.Need-round-requires Inv-loop μ-loop
 round-requires c κs = ready (c .before .before .before .loop .inv) (c .if1 .left)
@@ -40,6 +41,7 @@ pack-spec =
     (tie.spec
     Inv-loop
     μ-loop
+    (λ c κs. search needs)
     loop-holds
     sub-t8
     returns

@@ -1,6 +1,6 @@
 -- `message::recognised` meets its contract. What two numbers share is no more than either. Assumes nothing.
 use mathlib.Core.Path.{refl}
-use lib.Bits.{and-le-l, and-le-r}
+use lib.Bits.{and-le-l}
 use Rattle.message.specs.Recognition.{recognised}
 use Rattle.message.proofs.recognised.Statement.{statement}
 use Rattle.message.proofs.recognised.Tie as tie
@@ -10,4 +10,4 @@ unfolding recognised
 returns c = refl
 
 pub recognised-spec : {M : Type 1} → statement M
-recognised-spec = tie.close (tie.spec (λ c. search (and-le-l, and-le-r)) (λ c. search (and-le-l, and-le-r)) returns)
+recognised-spec = tie.close (tie.spec (λ c. search and-le-l) (λ c. search and-le-l) returns)

@@ -1,4 +1,0 @@
-pub mod Faces
-pub mod Spans
-pub mod Wired
-pub mod Runs

@@ -1,4 +1,0 @@
-pub mod Face
-pub mod Words
-pub mod Wired
-pub mod Runs

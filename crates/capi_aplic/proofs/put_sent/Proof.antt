@@ -1,0 +1,40 @@
+use Rattle.capi_aplic.proofs.Wired.{sent-ways}
+use native.Mathlib.Omega.{arith}
+use lib.ListN.{length-set}
+use borrow.Author.Needs.{needs}
+use Rattle.capi_aplic.proofs.put_sent.Statement.{statement}
+use Rattle.capi_aplic.proofs.put_sent.Tie as tie
+
+slice-write-out-2 : tie.Need-slice-write-out-2
+slice-write-out-2 c = simp length-set (omega arith)
+
+slice-write-out-3 : tie.Need-slice-write-out-3
+slice-write-out-3 c = simp length-set (omega arith)
+
+slice-write-out-6 : tie.Need-slice-write-out-6
+slice-write-out-6 c = simp length-set (omega arith)
+
+slice-write-out-7 : tie.Need-slice-write-out-7
+slice-write-out-7 c = simp length-set (omega arith)
+
+pub put-sent-spec : {M : Type 1} → statement M
+put-sent-spec =
+    tie.close
+    (tie.spec
+    (λ c. search needs)
+    (λ c. search needs)
+    slice-write-out-2
+    slice-write-out-3
+    (λ c. search needs)
+    (λ c. search needs)
+    (λ c. search needs)
+    (λ c. search needs)
+    slice-write-out-6
+    (λ c. search needs)
+    slice-write-out-7
+    (λ c. search needs)
+    (λ c. search needs)
+    (λ c. search needs)
+    (λ c. search (sent-ways, needs))
+    (λ c. search needs)
+    (λ c. search (sent-ways, needs)))

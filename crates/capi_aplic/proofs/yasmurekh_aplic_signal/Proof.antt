@@ -1,0 +1,34 @@
+use mathlib.Core.Path.{refl}
+use Rattle.aplic.proofs.Claims.{below-of}
+use Rattle.capi_aplic.proofs.Wired.{state-short, state-long, room-short, room-long, left-short, left-refused, flag-by}
+use borrow.Author.Needs.{needs}
+use Rattle.capi_aplic.proofs.yasmurekh_aplic_signal.Statement.{statement}
+use Rattle.capi_aplic.proofs.yasmurekh_aplic_signal.Tie as tie
+
+returns : tie.Need-returns
+returns c = (search (state-short, needs), (left-short _ _, refl))
+
+returns-2 : tie.Need-returns-2
+returns-2 c = (search (state-long, room-short, needs), (left-short _ _, refl))
+
+returns-3 : tie.Need-returns-3
+returns-3 c = (search (state-long, room-long, needs), (search (flag-by, needs), search needs))
+
+returns-4 : tie.Need-returns-4
+returns-4 c = (search (state-long, room-long, needs), (search (left-refused, needs), refl))
+
+pub yasmurekh-aplic-signal-spec : {M : Type 1} → statement M
+yasmurekh-aplic-signal-spec =
+    tie.close
+    (tie.spec
+    returns
+    returns-2
+    (λ c κs. search needs)
+    (λ c κs. search (below-of, needs))
+    (λ c κs. search needs)
+    (λ c. search needs)
+    (λ c. search needs)
+    (λ c. search needs)
+    (λ c. search needs)
+    returns-3
+    returns-4)

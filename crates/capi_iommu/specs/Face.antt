@@ -1,0 +1,82 @@
+-- The face for C: numbers for what the routines take and answer (D26). Nothing of a request's meaning stands here.
+use Prim.Native.Nat.{ℕ, zero, suc, _+_, _*_, _%_}
+use mathlib.Core.Bool.{Bool}
+use mathlib.Core.List.{List}
+use lib.Dec.{eqb, ltb, leb}
+use lib.ListN.{set, getD}
+use Rattle.memory.specs.Choice.{pick}
+use Rattle.causes.specs.Causes.{stageNumber}
+use Rattle.causes.specs.declared.Access.{Access}
+use Rattle.causes.specs.declared.Access.the-variants.{Read, Write, Execute}
+use Rattle.directory.specs.declared.ProcessId.{ProcessId}
+use Rattle.directory.specs.declared.ProcessId.the-variants.{Absent, Given}
+use Rattle.interrupt_file.specs.declared.Pair.{Pair}
+use Rattle.interrupt_file.specs.declared.Report.{Report}
+use Rattle.iommu.specs.declared.Settings.{Settings}
+use Rattle.iommu.specs.declared.DeviceRequest.{DeviceRequest}
+use Rattle.iommu.specs.declared.Answer.{Answer}
+use Rattle.iommu.specs.declared.Answer.the-variants.{Translated, Redirected, Stored, Discarded, Fault, Refused, Taken}
+use Rattle.iommu.specs.Answers.{numbersOf}
+use Rattle.iommu.specs.Request.{requestOf, afterRequest}
+use Rattle.capi_iommu.specs.declared.Chosen.{Chosen}
+use Rattle.capi_iommu.specs.declared.Chosen.the-variants.{Known, Unknown}
+
+-- "access (0 read, 1 write, 2 read-for-execute)", as document 02's case files have it
+abbrev pub chosenOf : ℕ → Chosen
+chosenOf a = pick (eqb a 0) (Known Read) (pick (eqb a 1) (Known Write) (pick (eqb a 2) (Known Execute) Unknown))
+
+-- "flags (1 process given, 2 supervisor)"
+abbrev pub processOf : ℕ → ℕ → ProcessId
+processOf flags p = pick (eqb (flags % 2) 1) (Given p) Absent
+
+abbrev pub supervisorOf : ℕ → Bool
+supervisorOf flags = leb 2 flags
+
+-- a fault's stage; 0 for any other answer
+abbrev pub stageOf : Answer → ℕ
+stageOf (Fault f) = stageNumber (f .stage)
+stageOf (Translated a) = 0
+stageOf (Redirected a) = 0
+stageOf (Stored d) = 0
+stageOf Discarded = 0
+stageOf (Refused r) = 0
+stageOf (Taken w) = 0
+
+-- the first five words of a buffer: kind, three values, stage
+abbrev pub withAnswer : List ℕ → Answer → List ℕ
+withAnswer out a =
+    set (set (set (set (set out 0 (numbersOf a .kind)) 1 (numbersOf a .first)) 2 (numbersOf a .second)) 3 (numbersOf a .third)) 4 (stageOf a)
+
+-- the words from the third on: the pending and the enable doubleword of each of the first k pairs
+unfoldable pub withPairs : List ℕ → (ℕ → Pair) → ℕ → List ℕ
+withPairs out pair zero = out
+withPairs out pair (suc k) = set (set (withPairs out pair k) (2 + 2 * k) (pair k .pending)) (3 + 2 * k) (pair k .enable)
+
+abbrev pub noPair : Pair
+noPair = record { pending = 0; enable = 0 }
+
+-- a report in 66 words: refusal, count, pairs
+abbrev pub withReport : List ℕ → Report → List ℕ
+withReport out r = set (withPairs (set out 0 (r .refusal)) (λ k. getD (r .pairs) k noPair) 32) 1 (r .count)
+
+-- an unknown access or flag is refused with 2010, as in a case file
+module _ (start mode root device process flags access address len value : ℕ) (bytes : List ℕ) where
+  abbrev pub settingsFace : Settings
+  settingsFace = record { start = start; mode = mode; root = root }
+
+  abbrev pub asked : Access → DeviceRequest
+  asked x = record { device = device; process = processOf flags process; supervisor = supervisorOf flags; access = x; address = address; length = len }
+
+  abbrev pub chosenFace : Chosen → Answer
+  chosenFace Unknown = Refused 2010
+  chosenFace (Known x) = pick (ltb 3 flags) (Refused 2010) (requestOf settingsFace bytes (asked x) value)
+
+  abbrev pub chosenBytes : Chosen → List ℕ
+  chosenBytes Unknown = bytes
+  chosenBytes (Known x) = pick (ltb 3 flags) bytes (afterRequest settingsFace bytes (asked x) value)
+
+  unfoldable pub requestFace : Answer
+  requestFace = chosenFace (chosenOf access)
+
+  unfoldable pub afterFace : List ℕ
+  afterFace = chosenBytes (chosenOf access)

@@ -1,5 +1,0 @@
-pub mod Layout
-pub mod Table
-pub mod Limits
-pub mod Supervisor
-pub mod Larger

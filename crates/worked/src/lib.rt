@@ -1,1 +1,0 @@
-// The worked cases of document 01, proved of the definitions.

@@ -1,0 +1,31 @@
+-- The worked cases hold of the definitions: the checker computes each row. Assumes nothing.
+use mathlib.Core.Path.{refl}
+use lib.Count.{onesIn, ones}
+use Rattle.memory.specs.Window.{memory}
+use Rattle.paging.specs.Scheme.{legalOf, indexOf}
+use Rattle.paging.specs.Entry.{entryOf, allows, mappedBy}
+use Rattle.paging.specs.Levels.{onLoad, levelOf, levels, walkOf}
+use Rattle.paging.specs.Stages.{secondStageOf, firstStageOf}
+use Rattle.directory.specs.Pointers.{pointerOf, pointers, tooWide}
+use Rattle.directory.specs.Device.{deviceMisconfigured, deviceContextAt, deviceContextOf}
+use Rattle.directory.specs.Process.{processMisconfigured, processContextAt, processContextOf, processTable, firstTableOf}
+use Rattle.message.specs.Recognition.{recognised, packed, extract}
+use Rattle.message.specs.Table.{translateReserved, recordReserved, onNotice, onTranslate, onMessageEntry, messageOf}
+use Rattle.interrupt_file.specs.Bit.{bitAt, withBit, withoutBit}
+use Rattle.interrupt_file.specs.File.{isFile, pendingOf, afterStore, afterTake}
+use Rattle.iommu.specs.Refusals.{badWindow, requestRefusal}
+use Rattle.iommu.specs.Translate.{untranslated, isMessage, guestOf, stagesOf, directoryOf, translateOf}
+use Rattle.iommu.specs.Request.{storableAs, finish, requestOf, afterRequest}
+use Rattle.worked_rows.specs.Memory.{inMode}
+use Rattle.worked_rows.specs.Rows.{Agrees}
+use Rattle.worked_cases.specs.Layout.{window}
+use Rattle.worked_cases.specs.Table.{table}
+use Rattle.worked_cases.specs.Limits.{limits}
+
+pub cases : Agrees table
+unfolding onesIn ones memory legalOf indexOf entryOf allows mappedBy onLoad levelOf levels walkOf secondStageOf firstStageOf pointerOf pointers tooWide deviceMisconfigured deviceContextAt deviceContextOf processMisconfigured processContextAt processContextOf processTable firstTableOf recognised packed extract translateReserved recordReserved onNotice onTranslate onMessageEntry messageOf bitAt withBit withoutBit isFile pendingOf afterStore afterTake badWindow requestRefusal untranslated isMessage guestOf stagesOf directoryOf translateOf storableAs finish requestOf afterRequest window inMode table
+cases = (refl, (refl, (refl, (refl, (refl, (refl, (refl, (refl, (refl, (refl, (refl, (refl, (refl, (refl, tt))))))))))))))
+
+pub limits-hold : Agrees limits
+unfolding isFile badWindow limits
+limits-hold = (refl, (refl, (refl, (refl, (refl, (refl, (refl, (refl, (refl, (refl, tt))))))))))

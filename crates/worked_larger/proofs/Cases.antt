@@ -1,0 +1,50 @@
+-- The cases of Req 03 hold of the definitions: the checker computes each row. Assumes nothing.
+use Prim.Native.Nat.{ℕ, _+_, _-_, _^_, _<_, _≤_}
+use mathlib.Core.Bool.{_||_}
+use mathlib.Core.Path.{_≡_, refl}
+use native.Mathlib.Omega.{arith}
+use lib.Dec.{ltb, leb}
+use Rattle.memory.specs.Choice.{pick}
+use Rattle.memory.specs.Window.{memory}
+use Rattle.paging.specs.Scheme.{levelsOf, rootBitsOf, addressBitsOf, signedOf, pageBitsOf, legalOf, indexOf}
+use Rattle.paging.specs.declared.Scheme.{Scheme}
+use Rattle.paging.specs.declared.Scheme.the-variants.{Sv39, Sv48, Sv57, Sv39x4, Sv48x4, Sv57x4}
+use Rattle.paging.proofs.Ranges.{legal-range}
+use Rattle.paging.specs.Entry.{entryOf, allows, mappedBy}
+use Rattle.paging.specs.Levels.{onLoad, levelOf, levels, walkOf}
+use Rattle.paging.specs.Stages.{secondStageOf, firstStageOf}
+use Rattle.directory.specs.Pointers.{pointerOf, pointers, tooWide}
+use Rattle.directory.specs.Device.{deviceMisconfigured, deviceContextAt, deviceContextOf}
+use Rattle.directory.specs.Process.{processMisconfigured, processContextAt, processContextOf, processTable, firstTableOf}
+use Rattle.message.specs.Recognition.{recognised, packed, extract}
+use Rattle.iommu.specs.Refusals.{badWindow, requestRefusal}
+use Rattle.iommu.specs.Translate.{untranslated, isMessage, guestOf, stagesOf, directoryOf, translateOf}
+use Rattle.iommu.specs.Request.{finish, requestOf}
+use Rattle.worked_rows.specs.Rows.{Agrees}
+use Rattle.worked_larger.specs.Larger.{tables, larger}
+
+-- every bit of a legal address is looked at by one level or is the page's offset
+pub widths-add-up : (s : Scheme) → pageBitsOf (levelsOf s - 1) + rootBitsOf s ≡ addressBitsOf s
+widths-add-up Sv39 = refl
+widths-add-up Sv48 = refl
+widths-add-up Sv57 = refl
+widths-add-up Sv39x4 = refl
+widths-add-up Sv48x4 = refl
+widths-add-up Sv57x4 = refl
+
+width-fits : (s : Scheme) → (0 < addressBitsOf s) × (addressBitsOf s ≤ 64)
+width-fits Sv39 = (omega arith, omega arith)
+width-fits Sv48 = (omega arith, omega arith)
+width-fits Sv57 = (omega arith, omega arith)
+width-fits Sv39x4 = (omega arith, omega arith)
+width-fits Sv48x4 = (omega arith, omega arith)
+width-fits Sv57x4 = (omega arith, omega arith)
+
+-- every legal address of every scheme: below half the scheme's width or in the last half of it below 2^64, where there is a sign; else below the limit
+pub legal-everywhere : (s : Scheme) (a : ℕ) → a < 2 ^ 64
+    → legalOf s a ≡ pick (signedOf s) (ltb a (2 ^ (addressBitsOf s - 1)) || leb (2 ^ 64 - 2 ^ (addressBitsOf s - 1)) a) (ltb a (2 ^ addressBitsOf s))
+legal-everywhere s a l = legal-range s a (width-fits s .0) (width-fits s .1) l
+
+pub larger-hold : Agrees larger
+unfolding memory legalOf indexOf entryOf allows mappedBy onLoad levelOf levels walkOf secondStageOf firstStageOf pointerOf pointers tooWide deviceMisconfigured deviceContextAt deviceContextOf processMisconfigured processContextAt processContextOf processTable firstTableOf recognised packed extract badWindow requestRefusal untranslated isMessage guestOf stagesOf directoryOf translateOf finish requestOf tables larger
+larger-hold = (refl, (refl, (refl, (refl, (refl, (refl, (refl, (refl, (refl, (refl, (refl, (refl, (refl, (refl, (refl, (refl, (refl, (refl, (refl, (refl, (refl, (refl, (refl, (refl, (refl, (refl, (refl, (refl, (refl, (refl, (refl, tt)))))))))))))))))))))))))))))))
