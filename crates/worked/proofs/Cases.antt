@@ -14,15 +14,18 @@ use Rattle.paging.proofs.Ranges.{legal-range}
 use Rattle.paging.specs.Entry.{entryOf, allows, mappedBy}
 use Rattle.paging.specs.Levels.{onLoad, levelOf, levels, walkOf}
 use Rattle.paging.specs.Stages.{secondStageOf, firstStageOf}
-use Rattle.directory.specs.Pointers.{pointerOf, pointers, tooWide}
-use Rattle.directory.specs.Device.{deviceMisconfigured, deviceContextAt, deviceContextOf}
-use Rattle.directory.specs.Process.{processMisconfigured, processContextAt, processContextOf, processTable, firstTableOf}
+use Rattle.directory_entry.specs.Entries.{pointerOf, tooWide}
+use Rattle.directory_walk.specs.Pointers.{leafPlace}
+use Rattle.directory_context.specs.Device.{deviceMisconfigured}
+use Rattle.directory_context.specs.Process.{processMisconfigured}
+use Rattle.directory_device.specs.Device.{deviceContextAt, deviceContextOf}
+use Rattle.directory_process.specs.Process.{processContextAt, processContextOf, processTable, firstTableOf}
 use Rattle.message.specs.Recognition.{recognised, packed, extract}
 use Rattle.message.specs.Table.{translateReserved, recordReserved, onNotice, onTranslate, onEntry, messageOf}
 use Rattle.interrupt_file.specs.Bit.{bitAt, raised, lowered}
 use Rattle.interrupt_file.specs.File.{isFile, pendingOf, afterStore, afterTake}
-use Rattle.iommu.specs.Refusals.{badWindow, requestRefusal}
-use Rattle.iommu.specs.Translate.{untranslated, isMessage, guestOf, stagesOf, directoryOf, translateOf}
+use Rattle.iommu_refusals.specs.Refusals.{badWindow, requestRefusal}
+use Rattle.iommu_translation.specs.Translate.{untranslated, isMessage, guestOf, stagesOf, directoryOf, translateOf}
 use Rattle.iommu.specs.Request.{storableAs, finish, requestOf, afterRequest}
 use Rattle.worked.specs.Layout.{window, settings}
 use Rattle.worked.specs.Table.{Agrees, table}
@@ -31,7 +34,7 @@ use Rattle.worked.specs.Supervisor.{bytes, supervisors}
 use Rattle.worked.specs.Larger.{tables, larger}
 
 pub cases : Agrees table
-unfolding onesIn ones memory legalOf indexOf entryOf allows mappedBy onLoad levelOf levels walkOf secondStageOf firstStageOf pointerOf pointers tooWide deviceMisconfigured deviceContextAt deviceContextOf processMisconfigured processContextAt processContextOf processTable firstTableOf recognised packed extract translateReserved recordReserved onNotice onTranslate onEntry messageOf bitAt raised lowered isFile pendingOf afterStore afterTake badWindow requestRefusal untranslated isMessage guestOf stagesOf directoryOf translateOf storableAs finish requestOf afterRequest window settings table
+unfolding onesIn ones memory legalOf indexOf entryOf allows mappedBy onLoad levelOf levels walkOf secondStageOf firstStageOf pointerOf leafPlace tooWide deviceMisconfigured deviceContextAt deviceContextOf processMisconfigured processContextAt processContextOf processTable firstTableOf recognised packed extract translateReserved recordReserved onNotice onTranslate onEntry messageOf bitAt raised lowered isFile pendingOf afterStore afterTake badWindow requestRefusal untranslated isMessage guestOf stagesOf directoryOf translateOf storableAs finish requestOf afterRequest window settings table
 cases = (refl, (refl, (refl, (refl, (refl, (refl, (refl, (refl, (refl, (refl, (refl, (refl, (refl, (refl, tt))))))))))))))
 
 pub limits-hold : Agrees limits
@@ -39,7 +42,7 @@ unfolding isFile badWindow limits
 limits-hold = (refl, (refl, (refl, (refl, (refl, (refl, (refl, (refl, (refl, (refl, tt))))))))))
 
 pub supervisors-hold : Agrees supervisors
-unfolding memory legalOf indexOf entryOf allows mappedBy onLoad levelOf levels walkOf secondStageOf firstStageOf pointerOf pointers tooWide deviceMisconfigured deviceContextAt deviceContextOf processMisconfigured processContextAt processContextOf processTable firstTableOf badWindow requestRefusal untranslated isMessage guestOf stagesOf directoryOf translateOf finish requestOf settings bytes supervisors
+unfolding memory legalOf indexOf entryOf allows mappedBy onLoad levelOf levels walkOf secondStageOf firstStageOf pointerOf leafPlace tooWide deviceMisconfigured deviceContextAt deviceContextOf processMisconfigured processContextAt processContextOf processTable firstTableOf badWindow requestRefusal untranslated isMessage guestOf stagesOf directoryOf translateOf finish requestOf settings bytes supervisors
 supervisors-hold = (refl, (refl, (refl, (refl, (refl, (refl, (refl, (refl, (refl, (refl, (refl, (refl, (refl, (refl, (refl, (refl, (refl, (refl, (refl, (refl, (refl, (refl, (refl, (refl, tt))))))))))))))))))))))))
 
 -- every bit of a legal address is looked at by one level or is the page's offset
@@ -65,5 +68,5 @@ pub legal-everywhere : (s : Scheme) (a : ℕ) → a < 2 ^ 64
 legal-everywhere s a l = legal-range s a (width-fits s .0) (width-fits s .1) l
 
 pub larger-hold : Agrees larger
-unfolding memory legalOf indexOf entryOf allows mappedBy onLoad levelOf levels walkOf secondStageOf firstStageOf pointerOf pointers tooWide deviceMisconfigured deviceContextAt deviceContextOf processMisconfigured processContextAt processContextOf processTable firstTableOf recognised packed extract badWindow requestRefusal untranslated isMessage guestOf stagesOf directoryOf translateOf finish requestOf tables larger
+unfolding memory legalOf indexOf entryOf allows mappedBy onLoad levelOf levels walkOf secondStageOf firstStageOf pointerOf leafPlace tooWide deviceMisconfigured deviceContextAt deviceContextOf processMisconfigured processContextAt processContextOf processTable firstTableOf recognised packed extract badWindow requestRefusal untranslated isMessage guestOf stagesOf directoryOf translateOf finish requestOf tables larger
 larger-hold = (refl, (refl, (refl, (refl, (refl, (refl, (refl, (refl, (refl, (refl, (refl, (refl, (refl, (refl, (refl, (refl, (refl, (refl, (refl, (refl, (refl, (refl, (refl, (refl, (refl, (refl, (refl, (refl, (refl, (refl, (refl, tt)))))))))))))))))))))))))))))))

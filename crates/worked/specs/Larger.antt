@@ -14,9 +14,9 @@ use Rattle.paging.specs.declared.Scheme.the-variants.{Sv39, Sv48, Sv57, Sv39x4,
 use Rattle.paging.specs.declared.Purpose.the-variants.{SecondStage}
 use Rattle.paging.specs.declared.Translation.{Translation}
 use Rattle.paging.specs.declared.Translation.the-variants.{To, Fault}
-use Rattle.directory.specs.Device.{deviceMisconfigured}
-use Rattle.directory.specs.Process.{processMisconfigured}
-use Rattle.directory.specs.declared.ProcessId.the-variants.{Absent}
+use Rattle.directory_context.specs.Device.{deviceMisconfigured}
+use Rattle.directory_context.specs.Process.{processMisconfigured}
+use Rattle.directory_process.specs.declared.ProcessId.the-variants.{Absent}
 use Rattle.message.specs.Recognition.{recognised, fileNumber}
 use Rattle.iommu.specs.Request.{requestOf}
 use Rattle.worked.specs.Layout.{words}

@@ -4,9 +4,9 @@ use mathlib.Core.Bool.{false}
 use mathlib.Core.List.{List, [], _∷_, _++_}
 use lib.ListN.{replicate}
 use Rattle.causes.specs.declared.Access.{Access}
-use Rattle.directory.specs.declared.ProcessId.{ProcessId}
-use Rattle.iommu.specs.declared.Settings.{Settings}
-use Rattle.iommu.specs.declared.DeviceRequest.{DeviceRequest}
+use Rattle.directory_process.specs.declared.ProcessId.{ProcessId}
+use Rattle.iommu_refusals.specs.declared.Settings.{Settings}
+use Rattle.iommu_refusals.specs.declared.DeviceRequest.{DeviceRequest}
 
 -- the eight bytes of a doubleword, lowest first
 eight : ℕ → List ℕ
