@@ -6,8 +6,8 @@ use lib.Dec.{leb}
 use lib.ListN.{length, set}
 use borrow.Author.Tests.{lt-ltb, le-ltb, ne-eqb}
 use Rattle.causes.specs.declared.Access.{Access}
-use Rattle.directory.specs.declared.ProcessId.{ProcessId}
-use Rattle.directory.specs.declared.ProcessId.the-variants.{Absent, Given}
+use Rattle.directory_process.specs.declared.ProcessId.{ProcessId}
+use Rattle.directory_process.specs.declared.ProcessId.the-variants.{Absent, Given}
 use Rattle.iommu.specs.declared.Answer.{Answer}
 use Rattle.iommu.specs.declared.Answer.the-variants.{Refused}
 use Rattle.iommu.specs.declared.Numbers.{Numbers}

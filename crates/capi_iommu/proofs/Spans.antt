@@ -15,9 +15,9 @@ use Rattle.memory.specs.Window.{doubleword}
 use Rattle.interrupt_file.specs.declared.Pair.{Pair}
 use Rattle.interrupt_file.specs.Report.{pairOf, pairsOf, countOf, fileReport, refusedReport}
 use Rattle.iommu.specs.Files.{reportOf}
-use Rattle.iommu.specs.Refusals.{reportRefusal}
-use Rattle.iommu.specs.Bounds.{Reportable}
-use Rattle.iommu.proofs.Filing.{file-above, file-fits}
+use Rattle.iommu_refusals.specs.Refusals.{reportRefusal}
+use Rattle.iommu_refusals.specs.Code.{Reportable}
+use Rattle.iommu_refusals.proofs.Bounds.{file-above, file-fits}
 use Rattle.memory.specs.Choice.{unlessRefused}
 use Rattle.capi_room.specs.Room.{fitting}
 use Rattle.capi_room.proofs.Rooms.{long-changed}

@@ -8,12 +8,12 @@ use Rattle.memory.specs.Choice.{pick}
 use Rattle.causes.specs.Causes.{stageNumber}
 use Rattle.causes.specs.declared.Access.{Access}
 use Rattle.causes.specs.declared.Access.the-variants.{Read, Write, Execute}
-use Rattle.directory.specs.declared.ProcessId.{ProcessId}
-use Rattle.directory.specs.declared.ProcessId.the-variants.{Absent, Given}
+use Rattle.directory_process.specs.declared.ProcessId.{ProcessId}
+use Rattle.directory_process.specs.declared.ProcessId.the-variants.{Absent, Given}
 use Rattle.interrupt_file.specs.declared.Pair.{Pair}
 use Rattle.interrupt_file.specs.declared.Report.{Report}
-use Rattle.iommu.specs.declared.Settings.{Settings}
-use Rattle.iommu.specs.declared.DeviceRequest.{DeviceRequest}
+use Rattle.iommu_refusals.specs.declared.Settings.{Settings}
+use Rattle.iommu_refusals.specs.declared.DeviceRequest.{DeviceRequest}
 use Rattle.iommu.specs.declared.Answer.{Answer}
 use Rattle.iommu.specs.declared.Answer.the-variants.{Translated, Redirected, Stored, Discarded, Fault, Refused, Taken}
 use Rattle.iommu.specs.Answers.{numbersOf}

@@ -1,13 +1,13 @@
 // The IOMMU's routines for C and Rust: numbers and lent slices alone. Every input is answered.
 use causes::Access;
-use directory::ProcessId;
+use directory_process::ProcessId;
 use iommu::Answer;
-use iommu::DeviceRequest;
-use iommu::Settings;
+use iommu_refusals::DeviceRequest;
+use iommu_refusals::Settings;
 ghost use mathlib.Core.Path.{_≡_};
 ghost use Prim.Native.Nat.{_≤_, _+_};
 ghost use lib.ListN.{length as lengthOf};
-ghost use Rattle.iommu.specs.Bounds.{Reportable};
+ghost use Rattle.iommu_refusals.specs.Code.{Reportable};
 ghost use Rattle.iommu.specs.Files.{takeOf, afterTakeOf, reportOf};
 ghost use Rattle.capi_room.specs.Room.{status, fitting};
 ghost use Rattle.capi_iommu.specs.Face.{stageOf, withAnswer, withPairs, withReport, chosenOf, processOf, requestFace, afterFace};
@@ -237,7 +237,7 @@ pub extern "C" fn yasmurekh_report(start: u64, window: &[u8], file: u64, out: &m
         return 1;
     }
     let len = window.len() as u64;
-    let refusal = iommu::report_refusal(start, len, file);
+    let refusal = iommu_refusals::report_refusal(start, len, file);
     let span = span_of(start, len, file, refusal);
     out[0] = refusal;
     let count = put_pairs(window, span, out);

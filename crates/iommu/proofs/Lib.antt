@@ -1,5 +1,3 @@
-pub mod Checks
-pub mod Filing
-pub mod Translation
-pub mod Finishing
-pub mod Sum
+pub mod Answers
+pub mod Files
+pub mod Requests

@@ -8,7 +8,7 @@ use Rattle.interrupt_file.specs.Report.{fileReport, refusedReport}
 use Rattle.interrupt_file.specs.declared.Report.{Report}
 use Rattle.iommu.specs.declared.Answer.{Answer}
 use Rattle.iommu.specs.declared.Answer.the-variants.{Refused, Taken}
-use Rattle.iommu.specs.Refusals.{takeRefusal, reportRefusal}
+use Rattle.iommu_refusals.specs.Refusals.{takeRefusal, reportRefusal}
 
 -- "6 take made: 1 if it was pending, else 0"
 unfoldable pub takeOf : ℕ → List ℕ → ℕ → ℕ → Answer

@@ -10,14 +10,14 @@ use Rattle.memory.specs.Window.{memory}
 use Rattle.memory.specs.Walk.{run, trace}
 use Rattle.causes.specs.Causes.{isWrite}
 use Rattle.interrupt_file.specs.File.{isFile, afterStore}
-use Rattle.iommu.specs.declared.Settings.{Settings}
-use Rattle.iommu.specs.declared.DeviceRequest.{DeviceRequest}
-use Rattle.iommu.specs.declared.Outcome.{Outcome}
-use Rattle.iommu.specs.declared.Outcome.the-variants.{Recorded}
+use Rattle.iommu_refusals.specs.declared.Settings.{Settings}
+use Rattle.iommu_refusals.specs.declared.DeviceRequest.{DeviceRequest}
+use Rattle.iommu_translation.specs.declared.Outcome.{Outcome}
+use Rattle.iommu_translation.specs.declared.Outcome.the-variants.{Recorded}
 use Rattle.iommu.specs.declared.Answer.{Answer}
 use Rattle.iommu.specs.declared.Answer.the-variants.{Translated, Redirected, Stored, Discarded, Fault, Refused, Taken}
-use Rattle.iommu.specs.Refusals.{requestRefusal}
-use Rattle.iommu.specs.Translate.{translateOf}
+use Rattle.iommu_refusals.specs.Refusals.{requestRefusal}
+use Rattle.iommu_translation.specs.Translate.{translateOf}
 
 -- the four bytes of a data value reversed
 abbrev pub reversed : ℕ → ℕ

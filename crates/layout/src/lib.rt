@@ -1,8 +1,8 @@
 // A small memory for the programs: a device directory of one level, files, and a message table, each a page.
 use causes::Access;
-use directory::ProcessId;
-use iommu::DeviceRequest;
-use iommu::Settings;
+use directory_process::ProcessId;
+use iommu_refusals::DeviceRequest;
+use iommu_refusals::Settings;
 ghost use Prim.Native.Nat.{_≤_};
 
 // Puts a doubleword into the window, lowest byte first.

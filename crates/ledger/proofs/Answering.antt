@@ -15,17 +15,17 @@ use Rattle.memory.specs.Walk.{run}
 use Rattle.message.specs.declared.Destination.{Destination}
 use Rattle.interrupt_file.specs.File.{isFile, pendingOf, afterStore, afterTake}
 use Rattle.interrupt_file.proofs.Pending.{length-after-store, length-after-take}
-use Rattle.iommu.specs.declared.DeviceRequest.{DeviceRequest}
-use Rattle.iommu.specs.declared.Outcome.{Outcome}
+use Rattle.iommu_refusals.specs.declared.DeviceRequest.{DeviceRequest}
+use Rattle.iommu_translation.specs.declared.Outcome.{Outcome}
 use Rattle.iommu.specs.declared.Answer.{Answer}
 use Rattle.iommu.specs.declared.Answer.the-variants.{Translated, Redirected, Stored, Discarded, Fault, Refused, Taken}
 use Rattle.iommu.specs.Answers.{numbersOf}
-use Rattle.iommu.specs.Refusals.{badWindow, requestRefusal, takeRefusal}
-use Rattle.iommu.specs.Translate.{translateOf}
+use Rattle.iommu_refusals.specs.Refusals.{badWindow, requestRefusal, takeRefusal}
+use Rattle.iommu_translation.specs.Translate.{translateOf}
 use Rattle.iommu.specs.Request.{identityOf, storable, finish, storedBy, requestOf, afterRequest}
 use Rattle.iommu.specs.Files.{takeOf, afterTakeOf}
-use Rattle.iommu.proofs.Filing.{take-made, take-refused, take-cleared, take-kept}
-use Rattle.iommu.proofs.Finishing.{record-stores, record-low, request-finishes}
+use Rattle.iommu.proofs.Files.{take-made, take-refused, take-cleared, take-kept}
+use Rattle.iommu.proofs.Requests.{record-stores, record-low, request-finishes}
 use Rattle.ledger.specs.Calls.{Op, request, take, Call, settings, answerOf, afterOf}
 use Rattle.ledger.specs.Ledger.{store, successfulTake, nothing, eventOf, requestEvent, takeEvent}
 use Rattle.ledger.specs.Closes.{Storing, OneByte, noticeOf, noticesOf}

@@ -7,9 +7,9 @@ use lib.ListN.{length}
 use Rattle.message.specs.declared.Destination.{Destination}
 use Rattle.interrupt_file.specs.File.{pendingOf}
 use Rattle.interrupt_file.proofs.Pending.{pending-lt}
-use Rattle.iommu.specs.declared.DeviceRequest.{DeviceRequest}
+use Rattle.iommu_refusals.specs.declared.DeviceRequest.{DeviceRequest}
 use Rattle.iommu.specs.declared.Answer.the-variants.{Stored, Taken}
-use Rattle.iommu.specs.Refusals.{takeRefusal}
+use Rattle.iommu_refusals.specs.Refusals.{takeRefusal}
 use Rattle.iommu.specs.Request.{identityOf}
 use Rattle.ledger.specs.Calls.{Op, request, take, bytesAfter, history}
 use Rattle.ledger.specs.Ledger.{Account}

@@ -8,14 +8,18 @@ use lib.Count.{onesIn, ones}
 use lib.ListN.{length, replicate}
 use Rattle.memory.specs.Window.{memory}
 use Rattle.causes.specs.declared.Access.the-variants.{Write}
-use Rattle.directory.specs.declared.ProcessId.the-variants.{Absent}
-use Rattle.paging.specs.Scheme.{legalOf, indexOf}
-use Rattle.paging.specs.Entry.{entryOf, allows, mappedBy}
-use Rattle.paging.specs.Levels.{onLoad, levelOf, levels, walkOf}
+use Rattle.directory_process.specs.declared.ProcessId.the-variants.{Absent}
+use Rattle.paging_scheme.specs.Scheme.{legalOf, indexOf}
+use Rattle.paging_entry.specs.Entry.{entryOf, allows, mappedBy}
+use Rattle.paging_entry.specs.Entry.{onLoad}
+use Rattle.paging.specs.Levels.{levelOf, levels, walkOf}
 use Rattle.paging.specs.Stages.{secondStageOf, firstStageOf}
-use Rattle.directory.specs.Pointers.{pointerOf, pointers, tooWide}
-use Rattle.directory.specs.Device.{deviceMisconfigured, deviceContextAt, deviceContextOf}
-use Rattle.directory.specs.Process.{processMisconfigured, processContextAt, processContextOf, processTable, firstTableOf}
+use Rattle.directory_entry.specs.Entries.{pointerOf, tooWide}
+use Rattle.directory_walk.specs.Pointers.{leafPlace}
+use Rattle.directory_context.specs.Device.{deviceMisconfigured}
+use Rattle.directory_device.specs.Device.{deviceContextAt, deviceContextOf}
+use Rattle.directory_context.specs.Process.{processMisconfigured}
+use Rattle.directory_process.specs.Process.{processContextAt, processContextOf, processTable, firstTableOf}
 use Rattle.message.specs.Recognition.{recognised, packed, extract}
 use Rattle.message.specs.Table.{translateReserved, recordReserved, onNotice, onTranslate, onMessageEntry, messageOf}
 use Rattle.interrupt_file.specs.Bit.{bitAt, withBit, withoutBit}
@@ -23,8 +27,8 @@ use Rattle.interrupt_file.specs.File.{isFile, pendingOf, afterStore, afterTake}
 use Rattle.iommu.specs.declared.Answer.the-variants.{Taken}
 use Rattle.iommu.specs.declared.Numbers.{Numbers}
 use Rattle.iommu.specs.Answers.{numbersOf, numbers}
-use Rattle.iommu.specs.Refusals.{badWindow, requestRefusal, takeRefusal}
-use Rattle.iommu.specs.Translate.{untranslated, isMessage, guestOf, stagesOf, directoryOf, translateOf}
+use Rattle.iommu_refusals.specs.Refusals.{badWindow, requestRefusal, takeRefusal}
+use Rattle.iommu_translation.specs.Translate.{untranslated, isMessage, guestOf, stagesOf, directoryOf, translateOf}
 use Rattle.iommu.specs.Request.{storableAs, finish, requestOf, afterRequest}
 use Rattle.iommu.specs.Files.{takeOf, afterTakeOf}
 use Rattle.ledger.specs.Calls.{Op, request, take, Call, bytesAfter, history}
@@ -89,7 +93,7 @@ pub computed :
     × (accountAfter start bytes ops 0x40000200 0 ≡ account 1 1 0 0)
     × (accountAfter start bytes ops 0x40000000 0 ≡ account 0 0 0 1)
     × (accountAfter start bytes early 0x40000200 37 ≡ account 1 2 1 0)
-unfolding onesIn ones memory legalOf indexOf entryOf allows mappedBy onLoad levelOf levels walkOf secondStageOf firstStageOf pointerOf pointers tooWide deviceMisconfigured deviceContextAt deviceContextOf processMisconfigured processContextAt processContextOf processTable firstTableOf recognised packed extract translateReserved recordReserved onNotice onTranslate onMessageEntry messageOf bitAt withBit withoutBit isFile pendingOf afterStore afterTake badWindow requestRefusal takeRefusal untranslated isMessage guestOf stagesOf directoryOf translateOf storableAs finish requestOf afterRequest takeOf afterTakeOf history bytesAfter enteredAll accountOf start bytes early later ops
+unfolding onesIn ones memory legalOf indexOf entryOf allows mappedBy onLoad levelOf levels walkOf secondStageOf firstStageOf pointerOf leafPlace tooWide deviceMisconfigured deviceContextAt deviceContextOf processMisconfigured processContextAt processContextOf processTable firstTableOf recognised packed extract translateReserved recordReserved onNotice onTranslate onMessageEntry messageOf bitAt withBit withoutBit isFile pendingOf afterStore afterTake badWindow requestRefusal takeRefusal untranslated isMessage guestOf stagesOf directoryOf translateOf storableAs finish requestOf afterRequest takeOf afterTakeOf history bytesAfter enteredAll accountOf start bytes early later ops
 computed = (refl, refl, refl, refl, refl)
 
 -- the theorem of this list, with each kind of premise met

@@ -10,10 +10,10 @@ use lib.ListN.{length}
 use Rattle.memory.specs.Choice.{pick, unlessRefused}
 use Rattle.interrupt_file.specs.File.{isFile, pendingOf, afterStore, afterTake}
 use Rattle.interrupt_file.proofs.Pending.{length-after-store, length-after-take, pending-lt, pending-stored, pending-taken, pending-store-other, pending-take-other}
-use Rattle.iommu.specs.declared.DeviceRequest.{DeviceRequest}
+use Rattle.iommu_refusals.specs.declared.DeviceRequest.{DeviceRequest}
 use Rattle.iommu.specs.declared.Answer.{Answer}
 use Rattle.iommu.specs.declared.Answer.the-variants.{Translated, Redirected, Stored, Discarded, Fault, Refused, Taken}
-use Rattle.iommu.specs.Refusals.{takeRefusal}
+use Rattle.iommu_refusals.specs.Refusals.{takeRefusal}
 use Rattle.iommu.specs.Request.{identityOf, storedBy, requestOf, afterRequest}
 use Rattle.iommu.specs.Files.{takeOf, afterTakeOf}
 use Rattle.ledger.specs.Calls.{Op, request, take, Call, settings, answerOf, afterOf}

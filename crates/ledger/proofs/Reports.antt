@@ -16,10 +16,10 @@ use Rattle.interrupt_file.proofs.Bits.{or-pow}
 use Rattle.interrupt_file.proofs.Files.{file-at}
 use Rattle.iommu.specs.declared.Answer.{Answer}
 use Rattle.iommu.specs.declared.Answer.the-variants.{Translated, Redirected, Stored, Discarded, Fault, Refused, Taken}
-use Rattle.iommu.specs.Refusals.{badWindow, takeRefusal, reportRefusal}
+use Rattle.iommu_refusals.specs.Refusals.{badWindow, takeRefusal, reportRefusal}
 use Rattle.iommu.specs.Request.{identityOf, storedBy, requestOf, afterRequest}
 use Rattle.iommu.specs.Files.{afterTakeOf, reportOf}
-use Rattle.iommu.proofs.Filing.{report-made}
+use Rattle.iommu.proofs.Files.{report-made}
 use Rattle.ledger.specs.Calls.{Op, request, take, settings, afterOf, bytesAfter, history}
 use Rattle.ledger.specs.Sums.{ofFile, total, storeTo, takeFrom, howMany}
 use Rattle.ledger.specs.Closes.{left, accountAfter, pendingAfter}

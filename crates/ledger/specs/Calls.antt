@@ -1,8 +1,8 @@
 -- Lists of calls on one memory (01, "The ledger of demand 3": "Its requests and takes all give the same window start; directory mode and root may differ").
 use Prim.Native.Nat.{ℕ}
 use mathlib.Core.List.{List, [], _∷_}
-use Rattle.iommu.specs.declared.Settings.{Settings}
-use Rattle.iommu.specs.declared.DeviceRequest.{DeviceRequest}
+use Rattle.iommu_refusals.specs.declared.Settings.{Settings}
+use Rattle.iommu_refusals.specs.declared.DeviceRequest.{DeviceRequest}
 use Rattle.iommu.specs.declared.Answer.{Answer}
 use Rattle.iommu.specs.Request.{requestOf, afterRequest}
 use Rattle.iommu.specs.Files.{takeOf, afterTakeOf}

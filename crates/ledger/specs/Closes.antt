@@ -11,14 +11,14 @@ use Rattle.memory.specs.Window.{memory}
 use Rattle.memory.specs.Walk.{run}
 use Rattle.message.specs.declared.Destination.{Destination}
 use Rattle.interrupt_file.specs.File.{isFile, placeOf, pendingOf}
-use Rattle.iommu.specs.declared.DeviceRequest.{DeviceRequest}
-use Rattle.iommu.specs.declared.Outcome.the-variants.{Recorded}
+use Rattle.iommu_refusals.specs.declared.DeviceRequest.{DeviceRequest}
+use Rattle.iommu_translation.specs.declared.Outcome.the-variants.{Recorded}
 use Rattle.iommu.specs.declared.Answer.{Answer}
 use Rattle.iommu.specs.declared.Answer.the-variants.{Stored, Refused, Taken}
 use Rattle.iommu.specs.declared.Numbers.{Numbers}
 use Rattle.iommu.specs.Answers.{numbersOf}
-use Rattle.iommu.specs.Refusals.{requestRefusal, takeRefusal}
-use Rattle.iommu.specs.Translate.{translateOf}
+use Rattle.iommu_refusals.specs.Refusals.{requestRefusal, takeRefusal}
+use Rattle.iommu_translation.specs.Translate.{translateOf}
 use Rattle.iommu.specs.Request.{identityOf, storable}
 use Rattle.ledger.specs.Calls.{Op, request, take, Call, settings, answerOf, afterOf, bytesAfter, history}
 use Rattle.ledger.specs.Ledger.{Account, store, eventOf, accountOf}

@@ -2,19 +2,23 @@
 use mathlib.Core.Path.{refl}
 use lib.Count.{onesIn, ones}
 use Rattle.memory.specs.Window.{memory}
-use Rattle.paging.specs.Scheme.{legalOf, indexOf}
-use Rattle.paging.specs.Entry.{entryOf, allows, mappedBy}
-use Rattle.paging.specs.Levels.{onLoad, levelOf, levels, walkOf}
+use Rattle.paging_scheme.specs.Scheme.{legalOf, indexOf}
+use Rattle.paging_entry.specs.Entry.{entryOf, allows, mappedBy}
+use Rattle.paging_entry.specs.Entry.{onLoad}
+use Rattle.paging.specs.Levels.{levelOf, levels, walkOf}
 use Rattle.paging.specs.Stages.{secondStageOf, firstStageOf}
-use Rattle.directory.specs.Pointers.{pointerOf, pointers, tooWide}
-use Rattle.directory.specs.Device.{deviceMisconfigured, deviceContextAt, deviceContextOf}
-use Rattle.directory.specs.Process.{processMisconfigured, processContextAt, processContextOf, processTable, firstTableOf}
+use Rattle.directory_entry.specs.Entries.{pointerOf, tooWide}
+use Rattle.directory_walk.specs.Pointers.{leafPlace}
+use Rattle.directory_context.specs.Device.{deviceMisconfigured}
+use Rattle.directory_device.specs.Device.{deviceContextAt, deviceContextOf}
+use Rattle.directory_context.specs.Process.{processMisconfigured}
+use Rattle.directory_process.specs.Process.{processContextAt, processContextOf, processTable, firstTableOf}
 use Rattle.message.specs.Recognition.{recognised, packed, extract}
 use Rattle.message.specs.Table.{translateReserved, recordReserved, onNotice, onTranslate, onMessageEntry, messageOf}
 use Rattle.interrupt_file.specs.Bit.{bitAt, withBit, withoutBit}
 use Rattle.interrupt_file.specs.File.{isFile, pendingOf, afterStore, afterTake}
-use Rattle.iommu.specs.Refusals.{badWindow, requestRefusal}
-use Rattle.iommu.specs.Translate.{untranslated, isMessage, guestOf, stagesOf, directoryOf, translateOf}
+use Rattle.iommu_refusals.specs.Refusals.{badWindow, requestRefusal}
+use Rattle.iommu_translation.specs.Translate.{untranslated, isMessage, guestOf, stagesOf, directoryOf, translateOf}
 use Rattle.iommu.specs.Request.{storableAs, finish, requestOf, afterRequest}
 use Rattle.worked_rows.specs.Memory.{inMode}
 use Rattle.worked_rows.specs.Rows.{Agrees}
@@ -23,7 +27,7 @@ use Rattle.worked_cases.specs.Table.{table}
 use Rattle.worked_cases.specs.Limits.{limits}
 
 pub cases : Agrees table
-unfolding onesIn ones memory legalOf indexOf entryOf allows mappedBy onLoad levelOf levels walkOf secondStageOf firstStageOf pointerOf pointers tooWide deviceMisconfigured deviceContextAt deviceContextOf processMisconfigured processContextAt processContextOf processTable firstTableOf recognised packed extract translateReserved recordReserved onNotice onTranslate onMessageEntry messageOf bitAt withBit withoutBit isFile pendingOf afterStore afterTake badWindow requestRefusal untranslated isMessage guestOf stagesOf directoryOf translateOf storableAs finish requestOf afterRequest window inMode table
+unfolding onesIn ones memory legalOf indexOf entryOf allows mappedBy onLoad levelOf levels walkOf secondStageOf firstStageOf pointerOf leafPlace tooWide deviceMisconfigured deviceContextAt deviceContextOf processMisconfigured processContextAt processContextOf processTable firstTableOf recognised packed extract translateReserved recordReserved onNotice onTranslate onMessageEntry messageOf bitAt withBit withoutBit isFile pendingOf afterStore afterTake badWindow requestRefusal untranslated isMessage guestOf stagesOf directoryOf translateOf storableAs finish requestOf afterRequest window inMode table
 cases = (refl, (refl, (refl, (refl, (refl, (refl, (refl, (refl, (refl, (refl, (refl, (refl, (refl, (refl, tt))))))))))))))
 
 pub limits-hold : Agrees limits

@@ -4,8 +4,8 @@ use mathlib.Core.Bool.{false}
 use mathlib.Core.List.{List, [], _∷_, _++_}
 use lib.ListN.{replicate}
 use Rattle.causes.specs.declared.Access.{Access}
-use Rattle.directory.specs.declared.ProcessId.{ProcessId}
-use Rattle.iommu.specs.declared.DeviceRequest.{DeviceRequest}
+use Rattle.directory_process.specs.declared.ProcessId.{ProcessId}
+use Rattle.iommu_refusals.specs.declared.DeviceRequest.{DeviceRequest}
 use Rattle.worked_rows.specs.Memory.{words}
 
 -- device 0: the message context, its table two pages on. Device 1: a PD17 process directory

@@ -3,7 +3,7 @@ use Prim.Native.Nat.{ℕ, _-_, _^_}
 use mathlib.Core.Bool.{Bool}
 use mathlib.Core.List.{List, [], _∷_}
 use Rattle.interrupt_file.specs.File.{isFile}
-use Rattle.iommu.specs.Refusals.{badWindow, badLength}
+use Rattle.iommu_refusals.specs.Refusals.{badWindow, badLength}
 use Rattle.worked_rows.specs.Rows.{Row, row, one}
 
 abbrev limit : ℕ → Bool → ℕ → Row

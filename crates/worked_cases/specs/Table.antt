@@ -4,9 +4,9 @@ use mathlib.Core.List.{List, [], _∷_, _++_}
 use lib.ListN.{getD}
 use Rattle.causes.specs.declared.Access.{Access}
 use Rattle.causes.specs.declared.Access.the-variants.{Read, Write, Execute}
-use Rattle.directory.specs.Device.{deviceIndex}
-use Rattle.directory.specs.Process.{processIndex}
-use Rattle.directory.specs.declared.ProcessId.the-variants.{Absent, Given}
+use Rattle.directory_entry.specs.Entries.{directoryIndex}
+use Rattle.directory_entry.specs.declared.Tree.the-variants.{Device, Process}
+use Rattle.directory_process.specs.declared.ProcessId.the-variants.{Absent, Given}
 use Rattle.message.specs.Recognition.{extract, recognised, fileNumber}
 use Rattle.iommu.specs.declared.Answer.{Answer}
 use Rattle.iommu.specs.Request.{identityOf, requestOf, afterRequest}
@@ -45,11 +45,11 @@ table =
     ∷ row 9 (wrote 0x80006000 2047 503) (2 ∷ 0x40001200 ∷ 0x28000000 ∷ 1029 ∷ 0 ∷ 128 ∷ [])
     ∷ row 10 (wrote 0x80006000 2048 503) (3 ∷ 0 ∷ 0 ∷ 0 ∷ 0 ∷ 0 ∷ [])
     ∷ row 11
-    (deviceIndex 0x012345 0 ∷ deviceIndex 0x012345 1 ∷ deviceIndex 0x012345 2
+    (directoryIndex Device 0x012345 0 ∷ directoryIndex Device 0x012345 1 ∷ directoryIndex Device 0x012345 2
     ∷ shown (requestOf (inMode 3) p5 (ask 0x012345 Absent Read 0) 0))
     (5 ∷ 141 ∷ 2 ∷ 4 ∷ 260 ∷ 0 ∷ 0 ∷ 0 ∷ [])
     ∷ row 12
-    (processIndex 0x2A5C3 0 ∷ processIndex 0x2A5C3 1 ∷ processIndex 0x2A5C3 2
+    (directoryIndex Process 0x2A5C3 0 ∷ directoryIndex Process 0x2A5C3 1 ∷ directoryIndex Process 0x2A5C3 2
     ∷ shown (requestOf (inMode 2) p5 (ask 1 (Given 0x2A5C3) Read 0) 0))
     (195 ∷ 165 ∷ 1 ∷ 4 ∷ 260 ∷ 0 ∷ 0 ∷ 0 ∷ [])
     ∷ row 13 (shown (sent (window 0xA000405 0) Read 0x80006000 0)) (4 ∷ 263 ∷ 0 ∷ 0 ∷ 4 ∷ [])

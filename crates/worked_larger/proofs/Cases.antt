@@ -6,19 +6,23 @@ use native.Mathlib.Omega.{arith}
 use lib.Dec.{ltb, leb}
 use Rattle.memory.specs.Choice.{pick}
 use Rattle.memory.specs.Window.{memory}
-use Rattle.paging.specs.Scheme.{levelsOf, rootBitsOf, addressBitsOf, signedOf, pageBitsOf, legalOf, indexOf}
-use Rattle.paging.specs.declared.Scheme.{Scheme}
-use Rattle.paging.specs.declared.Scheme.the-variants.{Sv39, Sv48, Sv57, Sv39x4, Sv48x4, Sv57x4}
-use Rattle.paging.proofs.Ranges.{legal-range}
-use Rattle.paging.specs.Entry.{entryOf, allows, mappedBy}
-use Rattle.paging.specs.Levels.{onLoad, levelOf, levels, walkOf}
+use Rattle.paging_scheme.specs.Scheme.{levelsOf, rootBitsOf, addressBitsOf, signedOf, pageBitsOf, legalOf, indexOf}
+use Rattle.paging_scheme.specs.declared.Scheme.{Scheme}
+use Rattle.paging_scheme.specs.declared.Scheme.the-variants.{Sv39, Sv48, Sv57, Sv39x4, Sv48x4, Sv57x4}
+use Rattle.paging_scheme.proofs.SchemeLaws.{legal-range}
+use Rattle.paging_entry.specs.Entry.{entryOf, allows, mappedBy}
+use Rattle.paging_entry.specs.Entry.{onLoad}
+use Rattle.paging.specs.Levels.{levelOf, levels, walkOf}
 use Rattle.paging.specs.Stages.{secondStageOf, firstStageOf}
-use Rattle.directory.specs.Pointers.{pointerOf, pointers, tooWide}
-use Rattle.directory.specs.Device.{deviceMisconfigured, deviceContextAt, deviceContextOf}
-use Rattle.directory.specs.Process.{processMisconfigured, processContextAt, processContextOf, processTable, firstTableOf}
+use Rattle.directory_entry.specs.Entries.{pointerOf, tooWide}
+use Rattle.directory_walk.specs.Pointers.{leafPlace}
+use Rattle.directory_context.specs.Device.{deviceMisconfigured}
+use Rattle.directory_device.specs.Device.{deviceContextAt, deviceContextOf}
+use Rattle.directory_context.specs.Process.{processMisconfigured}
+use Rattle.directory_process.specs.Process.{processContextAt, processContextOf, processTable, firstTableOf}
 use Rattle.message.specs.Recognition.{recognised, packed, extract}
-use Rattle.iommu.specs.Refusals.{badWindow, requestRefusal}
-use Rattle.iommu.specs.Translate.{untranslated, isMessage, guestOf, stagesOf, directoryOf, translateOf}
+use Rattle.iommu_refusals.specs.Refusals.{badWindow, requestRefusal}
+use Rattle.iommu_translation.specs.Translate.{untranslated, isMessage, guestOf, stagesOf, directoryOf, translateOf}
 use Rattle.iommu.specs.Request.{finish, requestOf}
 use Rattle.worked_rows.specs.Rows.{Agrees}
 use Rattle.worked_larger.specs.Larger.{tables, larger}
@@ -46,5 +50,5 @@ pub legal-everywhere : (s : Scheme) (a : ℕ) → a < 2 ^ 64
 legal-everywhere s a l = legal-range s a (width-fits s .0) (width-fits s .1) l
 
 pub larger-hold : Agrees larger
-unfolding memory legalOf indexOf entryOf allows mappedBy onLoad levelOf levels walkOf secondStageOf firstStageOf pointerOf pointers tooWide deviceMisconfigured deviceContextAt deviceContextOf processMisconfigured processContextAt processContextOf processTable firstTableOf recognised packed extract badWindow requestRefusal untranslated isMessage guestOf stagesOf directoryOf translateOf finish requestOf tables larger
+unfolding memory legalOf indexOf entryOf allows mappedBy onLoad levelOf levels walkOf secondStageOf firstStageOf pointerOf leafPlace tooWide deviceMisconfigured deviceContextAt deviceContextOf processMisconfigured processContextAt processContextOf processTable firstTableOf recognised packed extract badWindow requestRefusal untranslated isMessage guestOf stagesOf directoryOf translateOf finish requestOf tables larger
 larger-hold = (refl, (refl, (refl, (refl, (refl, (refl, (refl, (refl, (refl, (refl, (refl, (refl, (refl, (refl, (refl, (refl, (refl, (refl, (refl, (refl, (refl, (refl, (refl, (refl, (refl, (refl, (refl, (refl, (refl, (refl, (refl, tt)))))))))))))))))))))))))))))))

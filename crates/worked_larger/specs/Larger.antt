@@ -6,17 +6,17 @@ use lib.Dec.{eqb}
 use lib.ListN.{replicate}
 use Rattle.memory.specs.Choice.{pick}
 use Rattle.causes.specs.declared.Access.the-variants.{Read}
-use Rattle.paging.specs.Scheme.{legalOf}
-use Rattle.paging.specs.Entry.{leafOf, mappedBy}
+use Rattle.paging_scheme.specs.Scheme.{legalOf}
+use Rattle.paging_entry.specs.Entry.{leafOf, mappedBy}
 use Rattle.paging.specs.Stages.{guestLookup}
-use Rattle.paging.specs.declared.Scheme.{Scheme}
-use Rattle.paging.specs.declared.Scheme.the-variants.{Sv39, Sv48, Sv57, Sv39x4, Sv48x4, Sv57x4}
-use Rattle.paging.specs.declared.Purpose.the-variants.{SecondStage}
-use Rattle.paging.specs.declared.Translation.{Translation}
-use Rattle.paging.specs.declared.Translation.the-variants.{To, Fault}
-use Rattle.directory.specs.Device.{deviceMisconfigured}
-use Rattle.directory.specs.Process.{processMisconfigured}
-use Rattle.directory.specs.declared.ProcessId.the-variants.{Absent}
+use Rattle.paging_scheme.specs.declared.Scheme.{Scheme}
+use Rattle.paging_scheme.specs.declared.Scheme.the-variants.{Sv39, Sv48, Sv57, Sv39x4, Sv48x4, Sv57x4}
+use Rattle.paging_entry.specs.declared.Purpose.the-variants.{SecondStage}
+use Rattle.paging_entry.specs.declared.Translation.{Translation}
+use Rattle.paging_entry.specs.declared.Translation.the-variants.{To, Fault}
+use Rattle.directory_context.specs.Device.{deviceMisconfigured}
+use Rattle.directory_context.specs.Process.{processMisconfigured}
+use Rattle.directory_process.specs.declared.ProcessId.the-variants.{Absent}
 use Rattle.message.specs.Recognition.{recognised, fileNumber}
 use Rattle.iommu.specs.Request.{requestOf}
 use Rattle.worked_rows.specs.Memory.{words}

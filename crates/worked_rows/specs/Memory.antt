@@ -1,7 +1,7 @@
 -- The memory of the worked cases, written as doublewords, and the settings that they run under: one window start and one root.
 use Prim.Native.Nat.{ℕ, _/_, _%_, _^_}
 use mathlib.Core.List.{List, [], _∷_, _++_}
-use Rattle.iommu.specs.declared.Settings.{Settings}
+use Rattle.iommu_refusals.specs.declared.Settings.{Settings}
 
 -- the eight bytes of a doubleword, lowest first
 eight : ℕ → List ℕ

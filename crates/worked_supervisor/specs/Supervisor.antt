@@ -6,8 +6,8 @@ use lib.ListN.{replicate}
 use Rattle.memory.specs.Choice.{pick}
 use Rattle.causes.specs.declared.Access.{Access}
 use Rattle.causes.specs.declared.Access.the-variants.{Read, Write, Execute}
-use Rattle.directory.specs.declared.ProcessId.the-variants.{Given}
-use Rattle.iommu.specs.declared.DeviceRequest.{DeviceRequest}
+use Rattle.directory_process.specs.declared.ProcessId.the-variants.{Given}
+use Rattle.iommu_refusals.specs.declared.DeviceRequest.{DeviceRequest}
 use Rattle.iommu.specs.Request.{requestOf}
 use Rattle.worked_rows.specs.Memory.{words, inMode}
 use Rattle.worked_rows.specs.Rows.{Row, row, one, shown}

@@ -1,5 +1,5 @@
 -- `identity` meets its contract: one law for each return. Assumes nothing.
-use Rattle.iommu.proofs.Finishing.{identity-ways}
+use Rattle.iommu.proofs.Requests.{identity-ways}
 use borrow.Author.Needs.{needs}
 use Rattle.iommu.proofs.identity.Statement.{statement}
 use Rattle.iommu.proofs.identity.Tie as tie

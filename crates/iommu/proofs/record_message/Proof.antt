@@ -1,5 +1,5 @@
 -- `record_message` meets its contract: one law for each return. Assumes nothing.
-use Rattle.iommu.proofs.Finishing.{record-ways}
+use Rattle.iommu.proofs.Requests.{record-ways}
 use borrow.Author.Needs.{needs}
 use Rattle.iommu.proofs.record_message.Statement.{statement}
 use Rattle.iommu.proofs.record_message.Tie as tie

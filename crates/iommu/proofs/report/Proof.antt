@@ -1,5 +1,5 @@
 -- `report` meets its contract: one law for each return. Assumes nothing.
-use Rattle.iommu.proofs.Filing.{report-ways}
+use Rattle.iommu.proofs.Files.{report-ways}
 use borrow.Author.Needs.{needs}
 use Rattle.iommu.proofs.report.Statement.{statement}
 use Rattle.iommu.proofs.report.Tie as tie

@@ -1,5 +1,5 @@
 -- `request` meets its contract: one law for each return. Assumes nothing.
-use Rattle.iommu.proofs.Finishing.{request-ways}
+use Rattle.iommu.proofs.Requests.{request-ways}
 use borrow.Author.Needs.{needs}
 use Rattle.iommu.proofs.request.Statement.{statement}
 use Rattle.iommu.proofs.request.Tie as tie

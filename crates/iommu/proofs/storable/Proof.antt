@@ -1,5 +1,5 @@
 -- `storable` meets its contract: one law for each return. Assumes nothing.
-use Rattle.iommu.proofs.Finishing.{storable-ways}
+use Rattle.iommu.proofs.Requests.{storable-ways}
 use borrow.Author.Needs.{needs}
 use Rattle.iommu.proofs.storable.Statement.{statement}
 use Rattle.iommu.proofs.storable.Tie as tie

@@ -1,5 +1,5 @@
 -- `take` meets its contract: one law for each return. Assumes nothing.
-use Rattle.iommu.proofs.Filing.{take-ways}
+use Rattle.iommu.proofs.Files.{take-ways}
 use borrow.Author.Needs.{needs}
 use Rattle.iommu.proofs.take.Statement.{statement}
 use Rattle.iommu.proofs.take.Tie as tie

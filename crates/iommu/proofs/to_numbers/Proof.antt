@@ -1,5 +1,5 @@
 -- `to_numbers` meets its contract, case by case. Assumes nothing.
-use Rattle.iommu.proofs.Checks.{numbers-are}
+use Rattle.iommu.proofs.Answers.{numbers-are}
 use borrow.Author.Needs.{needs}
 use Rattle.iommu.proofs.to_numbers.Statement.{statement}
 use Rattle.iommu.proofs.to_numbers.Tie as tie

@@ -1,8 +1,0 @@
--- `bare` is a test of the mode. Assumes nothing.
-use borrow.Author.Needs.{needs}
-use Rattle.directory.proofs.Checks.{checks}
-use Rattle.directory.proofs.bare.Statement.{statement}
-use Rattle.directory.proofs.bare.Tie as tie
-
-pub bare-spec : {M : Type 1} → statement M
-bare-spec = tie.close (tie.spec (λ c κs. search needs) (λ c. search (checks, needs)))

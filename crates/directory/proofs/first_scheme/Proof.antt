@@ -1,8 +1,0 @@
--- `first_scheme` is the scheme that a mode stands for. Assumes nothing.
-use borrow.Author.Needs.{needs}
-use Rattle.memory.proofs.Choices.{picks}
-use Rattle.directory.proofs.first_scheme.Statement.{statement}
-use Rattle.directory.proofs.first_scheme.Tie as tie
-
-pub first-scheme-spec : {M : Type 1} → statement M
-first-scheme-spec = tie.close (tie.spec (λ c. search (picks, needs)) (λ c. search (picks, needs)) (λ c. search (picks, needs)))

@@ -1,8 +1,0 @@
--- `valid_mode` is two tests of the mode. Assumes nothing.
-use borrow.Author.Needs.{needs}
-use Rattle.directory.proofs.Checks.{checks}
-use Rattle.directory.proofs.valid_mode.Statement.{statement}
-use Rattle.directory.proofs.valid_mode.Tie as tie
-
-pub valid-mode-spec : {M : Type 1} → statement M
-valid-mode-spec = tie.close (tie.spec (λ c κs. search needs) (λ c κs. search needs) (λ c κs. search needs) (λ c. search (checks, needs)))

@@ -1,8 +1,0 @@
--- `bad_length` meets its contract: one law for each return. Assumes nothing.
-use Rattle.iommu.proofs.Checks.{small-ways}
-use borrow.Author.Needs.{needs}
-use Rattle.iommu.proofs.bad_length.Statement.{statement}
-use Rattle.iommu.proofs.bad_length.Tie as tie
-
-pub bad-length-spec : {M : Type 1} → statement M
-bad-length-spec = tie.close (tie.spec (λ c. search (small-ways, needs)) (λ c. search needs) (λ c. search (small-ways, needs)))

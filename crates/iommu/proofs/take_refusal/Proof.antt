@@ -1,9 +1,0 @@
--- `take_refusal` meets its contract: one law for each check. Assumes nothing.
-use Rattle.iommu.proofs.Filing.{file-checks}
-use borrow.Author.Needs.{needs}
-use Rattle.iommu.proofs.take_refusal.Statement.{statement}
-use Rattle.iommu.proofs.take_refusal.Tie as tie
-
-pub take-refusal-spec : {M : Type 1} → statement M
-take-refusal-spec =
-    tie.close (tie.spec (λ c κs. search needs) (λ c. search (file-checks, needs)) (λ c κs. search needs) (λ c. search (file-checks, needs)) (λ c. search (file-checks, needs)) (λ c. search (file-checks, needs)))

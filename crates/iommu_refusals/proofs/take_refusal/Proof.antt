@@ -1,0 +1,16 @@
+-- `take_refusal` meets its contract: one law for each check. Assumes nothing.
+use borrow.Author.Needs.{needs}
+use Rattle.iommu_refusals.proofs.Refusals.{file-checks}
+use Rattle.iommu_refusals.proofs.take_refusal.Statement.{statement}
+use Rattle.iommu_refusals.proofs.take_refusal.Tie as tie
+
+pub take-refusal-spec : {M : Type 1} → statement M
+take-refusal-spec =
+    tie.close
+    (tie.spec
+    (λ c κs. tt)
+    (λ c. search (file-checks, needs))
+    (λ c κs. tt)
+    (λ c. search (file-checks, needs))
+    (λ c. search (file-checks, needs))
+    (λ c. search (file-checks, needs)))

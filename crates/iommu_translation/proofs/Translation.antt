@@ -1,0 +1,159 @@
+-- The walk of a request, by the ways through each of its steps. Assumes nothing.
+use Prim.Native.Nat.{ℕ, _-_, _<_, _≤_, _^_}
+use mathlib.Core.Bool.{Bool, true, false, _||_}
+use mathlib.Core.Path.{_≡_, sym, ap, _∙_, subst}
+use borrow.Author.Tests.{lt-ltb, le-ltb, ne-eqb}
+use Rattle.memory.specs.declared.Load.{Load}
+use Rattle.memory.specs.Walk.{done, run}
+use Rattle.memory.proofs.Walks.{then, at}
+use Rattle.causes.specs.Causes.{accessFault, faultAt, disallowed}
+use Rattle.causes.specs.declared.Access.{Access}
+use Rattle.causes.specs.declared.Stage.the-variants.{Directory}
+use Rattle.causes.specs.declared.FaultInfo.{FaultInfo}
+use Rattle.paging.specs.declared.PageTable.{PageTable}
+use Rattle.paging_entry.specs.declared.Purpose.the-variants.{SecondStage}
+use Rattle.paging_entry.specs.declared.Translation.{Translation}
+use Rattle.paging_entry.specs.declared.Translation.the-variants.{To}
+use Rattle.paging_entry.specs.declared.Pages.{Pages}
+use Rattle.paging_entry.specs.Entry.{pagesFor}
+use Rattle.paging.specs.Stages.{firstStageOf, secondStageOf}
+use Rattle.directory_entry.specs.declared.Tree.the-variants.{Device}
+use Rattle.directory_entry.specs.Entries.{tooWide}
+use Rattle.directory_context.specs.declared.DecodedContext.{DecodedContext}
+use Rattle.directory_context.specs.Code.{SoundContext}
+use Rattle.directory_device.specs.declared.DeviceFound.{DeviceFound}
+use Rattle.directory_device.specs.declared.DeviceFound.the-variants.{Context}
+use Rattle.directory_device.specs.Device.{deviceContextOf}
+use Rattle.directory_device.specs.Code.{SoundFound}
+use Rattle.directory_process.specs.declared.PageTableInfo.{PageTableInfo}
+use Rattle.directory_process.specs.declared.PageTableInfo.the-variants.{Use}
+use Rattle.directory_process.specs.Process.{firstTableOf}
+use Rattle.directory_process.specs.Code.{Rooted}
+use Rattle.message.specs.Recognition.{recognised}
+use Rattle.message.specs.Table.{messageOf}
+use Rattle.message.specs.declared.Message.{Message}
+use Rattle.iommu_refusals.specs.declared.Settings.{Settings}
+use Rattle.iommu_refusals.specs.declared.DeviceRequest.{DeviceRequest}
+use Rattle.iommu_translation.specs.declared.Outcome.{Outcome}
+use Rattle.iommu_translation.specs.declared.Outcome.the-variants.{Translated, Fault}
+use Rattle.iommu_translation.specs.Translate.{untranslated, onMessage, onSecond, isMessage, guestOf, onFirst, stagesOf, onInfo, onDevice, directoryOf, translateOf}
+
+-- an address that no stage translates
+pub passed-low : (x : Access) (a : ℕ) → a < 72057594037927936 → Translated a ≡ untranslated x a
+unfolding untranslated
+passed-low x a h = simp (lt-ltb a (2 ^ 56) h)
+
+pub stopped-high : (x : Access) (a c : ℕ) → 72057594037927936 ≤ a → c ≡ accessFault x → Fault (faultAt Directory c) ≡ untranslated x a
+unfolding untranslated
+stopped-high x a c h e = simp (le-ltb a (2 ^ 56) h, e)
+
+pub ruleset untranslated-ways = (passed-low, stopped-high)
+
+-- by the case of a stage's answer
+pub told-is : (m n : Message) (o : Outcome) → m ≡ n → o ≡ onMessage n → o ≡ onMessage m
+told-is m n o e h = h ∙ sym (ap onMessage e)
+
+pub reached-is : (t u : Translation) (o : Outcome) → t ≡ u → o ≡ onSecond u → o ≡ onSecond t
+reached-is t u o e h = h ∙ sym (ap onSecond e)
+
+-- messages
+module _ (c : DecodedContext) (a : ℕ) where
+  pub no-table : c .messages ≡ false → false ≡ isMessage c a
+  unfolding isMessage
+  no-table t = simp t
+
+  pub by-pattern : (r : Bool) → c .messages ≡ true → r ≡ recognised (c .mask) (c .pattern) a → r ≡ isMessage c a
+  unfolding isMessage
+  by-pattern r t e = e ∙ simp t
+
+pub ruleset message-ways = (no-table, by-pattern)
+
+module _ (m : ℕ → Load) (c : DecodedContext) (x : Access) (a : ℕ) (b : Bool) (h : b ≡ isMessage c a) (o : Outcome) where
+  pub guest-message : (r : Message) → b ≡ true → r ≡ run m (messageOf (c .page) (c .mask) x a) → o ≡ onMessage r → o ≡ run m (guestOf c x a)
+  unfolding guestOf
+  guest-message r t hr e = then m (messageOf (c .page) (c .mask) x a) (λ k. done (onMessage k)) hr e ∙ simp (← h, t)
+
+  pub guest-second : (r : Translation) → b ≡ false → r ≡ run m (secondStageOf (c .second) SecondStage x a) → o ≡ onSecond r → o ≡ run m (guestOf c x a)
+  unfolding guestOf
+  guest-second r t hr e = then m (secondStageOf (c .second) SecondStage x a) (λ k. done (onSecond k)) hr e ∙ simp (← h, t)
+
+pub ruleset guest-address-ways = (guest-message, guest-second)
+
+-- both stages
+module _ (m : ℕ → Load) (c : DecodedContext) (q : DeviceRequest) (f : PageTable) (sum : Bool) where
+  pub stages-none : (o : Outcome) → (f .on || c .second .on) ≡ false → o ≡ untranslated (q .access) (q .address) → o ≡ run m (stagesOf c q f sum)
+  unfolding stagesOf
+  stages-none o t e = e ∙ simp t
+
+  module _ (t : (f .on || c .second .on) ≡ true) (pages : Pages) (hp : pages ≡ pagesFor (q .supervisor) sum (q .access)) (r : Translation)
+      (hr : r ≡ run m (firstStageOf f (c .second) (q .access) pages (q .address))) where
+    both : {o : Outcome} → o ≡ run m (onFirst c (q .access) r) → o ≡ run m (stagesOf c q f sum)
+    unfolding stagesOf
+    both e =
+        then m (firstStageOf f (c .second) (q .access) (pagesFor (q .supervisor) sum (q .access)) (q .address)) (onFirst c (q .access))
+        (hr ∙ ap (λ (p : Pages). run m (firstStageOf f (c .second) (q .access) p (q .address))) hp)
+        e
+        ∙ simp t
+
+    pub stages-fault : (k : FaultInfo) (o : Outcome) → r ≡ Translation.Fault k → o ≡ onSecond r → o ≡ run m (stagesOf c q f sum)
+    stages-fault k o e w = both (at m (onFirst c (q .access)) e (w ∙ ap onSecond e))
+
+    pub stages-guest : (a : ℕ) (o : Outcome) → r ≡ To a → o ≡ run m (guestOf c (q .access) a) → o ≡ run m (stagesOf c q f sum)
+    stages-guest a o e w = both (at m (onFirst c (q .access)) e w)
+
+pub ruleset stages-ways = (stages-none, stages-fault, stages-guest)
+
+-- with the device context
+module _ (m : ℕ → Load) (c : DecodedContext) (q : DeviceRequest) (i : PageTableInfo)
+    (hi : i ≡ run m (firstTableOf c (q .process) (q .supervisor) (q .access))) where
+  informed : {o : Outcome} → o ≡ run m (onInfo c q i) → o ≡ run m (onDevice q (Context c))
+  informed e = then m (firstTableOf c (q .process) (q .supervisor) (q .access)) (onInfo c q) hi e
+
+  pub context-fault : (k v : FaultInfo) → i ≡ PageTableInfo.Fault k → ((f : FaultInfo) → i ≡ PageTableInfo.Fault f → v ≡ f) → Fault v ≡ run m (onDevice q (Context c))
+  context-fault k v e h = informed (at m (onInfo c q) e (ap Fault (h k e)))
+
+  pub context-goes : (t : PageTable) (sum : Bool) (o : Outcome) → i ≡ Use t sum → o ≡ run m (stagesOf c q t sum) → o ≡ run m (onDevice q (Context c))
+  context-goes t sum o e h = informed (at m (onInfo c q) e h)
+
+pub use-root : (i : PageTableInfo) (t : PageTable) (sum : Bool) → i ≡ Use t sum → Rooted i → t .root < 2 ^ 44
+use-root i t sum e h = subst Rooted e h
+
+pub ruleset info-ways = (context-fault, context-goes, use-root)
+
+-- with a directory
+module _ (m : ℕ → Load) (s : Settings) (q : DeviceRequest) (w : Bool) (hw : w ≡ tooWide Device (s .mode - 1) (q .device)) where
+  pub device-wide : (v : FaultInfo) → w ≡ true → v ≡ disallowed → Fault v ≡ run m (directoryOf s q)
+  unfolding directoryOf
+  device-wide v t e = simp (← hw, t, e)
+
+  module _ (t : w ≡ false) (d : DeviceFound) (hd : d ≡ run m (deviceContextOf (s .mode - 1) (s .root) (q .device))) where
+    located : {o : Outcome} → o ≡ run m (onDevice q d) → o ≡ run m (directoryOf s q)
+    unfolding directoryOf
+    located e = then m (deviceContextOf (s .mode - 1) (s .root) (q .device)) (onDevice q) hd e ∙ simp (← hw, t)
+
+    pub device-fault : (k v : FaultInfo) → d ≡ DeviceFound.Fault k → ((f : FaultInfo) → d ≡ DeviceFound.Fault f → v ≡ f) → Fault v ≡ run m (directoryOf s q)
+    device-fault k v e h = located (at m (onDevice q) e (ap Fault (h k e)))
+
+    pub device-goes : (c : DecodedContext) (o : Outcome) → d ≡ Context c → o ≡ run m (onDevice q (Context c)) → o ≡ run m (directoryOf s q)
+    device-goes c o e h = located (at m (onDevice q) e h)
+
+pub context-sound : (d : DeviceFound) (c : DecodedContext) → d ≡ Context c → SoundFound d → SoundContext c
+context-sound d c e h = subst SoundFound e h
+
+pub ruleset directory-ways = (device-wide, device-fault, device-goes, context-sound)
+
+-- the modes
+module _ (m : ℕ → Load) (s : Settings) (q : DeviceRequest) where
+  pub mode-off : s .mode ≡ 0 → Fault (faultAt Directory 256) ≡ run m (translateOf s q)
+  unfolding translateOf
+  mode-off h = simp h
+
+  pub mode-bare : (o : Outcome) → s .mode ≡ 1 → o ≡ untranslated (q .access) (q .address) → o ≡ run m (translateOf s q)
+  unfolding translateOf
+  mode-bare o h e = e ∙ simp h
+
+  pub mode-levels : (o : Outcome) → (s .mode ≡ 0 → ⊥) → (s .mode ≡ 1 → ⊥) → o ≡ run m (directoryOf s q) → o ≡ run m (translateOf s q)
+  unfolding translateOf
+  mode-levels o h k e = e ∙ simp (ne-eqb (s .mode) 0 h, ne-eqb (s .mode) 1 k)
+
+pub ruleset mode-ways = (mode-off, mode-bare, mode-levels)

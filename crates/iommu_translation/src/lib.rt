@@ -1,0 +1,157 @@
+// What the tables say of a request: 003's steps, over one lent window.
+use causes::Access;
+use causes::FaultInfo;
+use causes::Stage;
+use directory_context::DecodedContext;
+use directory_device::DeviceFound;
+use directory_entry::Tree;
+use directory_process::PageTableInfo;
+use iommu_refusals::DeviceRequest;
+use iommu_refusals::Settings;
+use message::Destination;
+use message::Message;
+use paging::PageTable;
+use paging_entry::Purpose;
+use paging_entry::Translation;
+ghost use mathlib.Core.Path.{_≡_};
+ghost use Prim.Native.Nat.{_<_, _^_};
+ghost use Rattle.memory.specs.Window.{memory};
+ghost use Rattle.memory.specs.Walk.{run};
+ghost use Rattle.directory_context.specs.Code.{SoundContext};
+ghost use Rattle.iommu_translation.specs.Translate.{untranslated as untranslatedOf, onMessage, onSecond, isMessage, guestOf, stagesOf, onDevice, directoryOf, translateOf};
+
+// What the tables say of a request, before the store is looked at.
+pub enum Outcome {
+    Translated(u64),
+    Redirected(u64),
+    Recorded(Destination),
+    Fault(FaultInfo),
+}
+
+// An address that no stage translates.
+fn untranslated(x: Access, a: u64) -> Outcome
+    ensures { λ r. ⌜ r ≡ untranslatedOf x a ⌝ }
+{
+    if a < 72057594037927936 {
+        return Outcome::Translated(a);
+    }
+    Outcome::Fault(FaultInfo {
+        cause: causes::access_fault(x),
+        stage: Stage::Directory,
+    })
+}
+
+fn on_message(m: Message) -> Outcome
+    ensures { λ r. ⌜ r ≡ onMessage m ⌝ }
+{
+    match m {
+        Message::Fault(f) => Outcome::Fault(f),
+        Message::Redirect(a) => Outcome::Redirected(a),
+        Message::Record(d) => Outcome::Recorded(d),
+    }
+}
+
+fn on_second(t: Translation) -> Outcome
+    ensures { λ r. ⌜ r ≡ onSecond t ⌝ }
+{
+    match t {
+        Translation::Fault(f) => Outcome::Fault(f),
+        Translation::To(a) => Outcome::Translated(a),
+    }
+}
+
+fn is_message(c: DecodedContext, a: u64) -> bool
+    ensures { λ r. ⌜ r ≡ isMessage c a ⌝ }
+{
+    if c.messages {
+        return message::recognised(c.mask, c.pattern, a);
+    }
+    false
+}
+
+// The guest address after the first stage: a message, or the second stage's.
+fn guest(c: DecodedContext, q: DeviceRequest, start: u64, window: &[u8], a: u64) -> Outcome
+    requires { ⌜ SoundContext c ⌝ }
+    ensures { λ r. ⌜ r ≡ run (memory start (now (window .entry))) (guestOf c (q .access) a) ⌝ }
+{
+    let x = q.access;
+    if is_message(c, a) {
+        return on_message(message::message_of(c.page, c.mask, x, start, window, a));
+    }
+    let g = c.second;
+    on_second(paging::second_stage(g, Purpose::SecondStage, x, start, window, a))
+}
+
+// Both stages, with the first stage's table and SUM.
+fn stages(
+    c: DecodedContext,
+    q: DeviceRequest,
+    f: PageTable,
+    sum: bool,
+    start: u64,
+    window: &[u8],
+) -> Outcome
+    requires { ⌜ (f .root < 2 ^ 44) × SoundContext c ⌝ }
+    ensures { λ r. ⌜ r ≡ run (memory start (now (window .entry))) (stagesOf c q f sum) ⌝ }
+{
+    let x = q.access;
+    let g = c.second;
+    if f.on | g.on {
+        let pages = paging_entry::pages_for(q.supervisor, sum, x);
+        let t = paging::first_stage(f, g, x, pages, start, window, q.address);
+        let Translation::To(a) = t else {
+            return on_second(t);
+        };
+        return guest(c, q, start, window, a);
+    }
+    untranslated(x, q.address)
+}
+
+// Steps 7 to 20, with the device context.
+fn with_context(c: DecodedContext, q: DeviceRequest, start: u64, window: &[u8]) -> Outcome
+    requires { ⌜ SoundContext c ⌝ }
+    ensures { λ r. ⌜ r ≡ run (memory start (now (window .entry))) (onDevice q (DeviceFound.Context c)) ⌝ }
+{
+    let p = q.process;
+    let x = q.access;
+    let info = directory_process::first_table(c, p, q.supervisor, x, start, window);
+    let PageTableInfo::Use(f, sum) = info else {
+        return Outcome::Fault(info.fault());
+    };
+    stages(c, q, f, sum, start, window)
+}
+
+// Steps 5 to 20, with a directory.
+fn in_directory(s: Settings, q: DeviceRequest, window: &[u8]) -> Outcome
+    requires { ⌜ (1 < s .mode) × (s .mode < 5) × (s .root < 2 ^ 44) ⌝ }
+    ensures { λ r. ⌜ r ≡ run (memory (s .start) (now (window .entry))) (directoryOf s q) ⌝ }
+{
+    let levels = s.mode - 1;
+    let d = q.device;
+    if directory_entry::too_wide(Tree::Device, levels, d) {
+        return Outcome::Fault(causes::disallowed());
+    }
+    let found = directory_device::device_context(levels, s.root, d, s.start, window);
+    let DeviceFound::Context(c) = found else {
+        return Outcome::Fault(found.fault());
+    };
+    with_context(c, q, s.start, window)
+}
+
+// What the tables say of a request.
+pub fn translate(s: Settings, q: DeviceRequest, window: &[u8]) -> Outcome
+    requires { ⌜ (s .mode < 5) × (s .root < 2 ^ 44) ⌝ }
+    ensures { λ r. ⌜ r ≡ run (memory (s .start) (now (window .entry))) (translateOf s q) ⌝ }
+{
+    let x = q.access;
+    if s.mode == 0 {
+        return Outcome::Fault(FaultInfo {
+            cause: 256,
+            stage: Stage::Directory,
+        });
+    }
+    if s.mode == 1 {
+        return untranslated(x, q.address);
+    }
+    in_directory(s, q, window)
+}
