@@ -1,8 +1,9 @@
-//! Links the proved archive, which `rt staticlib capi` writes, and the archive of an earlier commit
-//! where `bench/before` names one.
+//! Links the proved archive, which `scripts/archive` builds, and the archive of an earlier commit where
+//! `bench/before` names one.
 
 use std::env;
 use std::path::{Path, PathBuf};
+use std::process::{exit, Command};
 
 fn link(folder: &Path, name: &str) {
     println!("cargo:rustc-link-search=native={}", folder.display());
@@ -11,9 +12,27 @@ fn link(folder: &Path, name: &str) {
     println!("cargo:rerun-if-changed={}", archive.display());
 }
 
+/// Ends the build where the archive isn't made from the crates as they are.
+fn refuse_stale(top: &Path) {
+    for name in [
+        "crates",
+        "crates.txt",
+        "scripts",
+        "target/staticlib/libcapi.a.made-from",
+    ] {
+        println!("cargo:rerun-if-changed={}", top.join(name).display());
+    }
+    let checked = Command::new("bash").arg(top.join("scripts/fresh")).status();
+    if !checked.is_ok_and(|status| status.success()) {
+        exit(1);
+    }
+}
+
 fn main() {
     let bench = PathBuf::from(env::var("CARGO_MANIFEST_DIR").expect("cargo sets it"));
-    link(&bench.join("../target/staticlib"), "capi");
+    let top = bench.join("..");
+    refuse_stale(&top);
+    link(&top.join("target/staticlib"), "capi");
     println!("cargo:rustc-check-cfg=cfg(before)");
     if let Ok(folder) = env::var("YASMUREKH_BEFORE") {
         link(Path::new(&folder), "before");

@@ -1,7 +1,8 @@
 //! The same job as the proved library, in plain safe Rust written for speed.
 //!
-//! The window is looked at as doublewords, so that a load is one compare and one 64-bit load; an
-//! entry's bits are tested together under one mask; causes are computed only where a fault is met.
+//! A walk is a chain of loads, each at an address made of the entry loaded before: what can be computed
+//! outside the chain is. An entry's bits are tested together under one mask; causes are computed only
+//! where a fault is met.
 
 /// The access of a request.
 #[derive(Clone, Copy, Debug, PartialEq, Eq)]
@@ -133,13 +134,35 @@ const A: u64 = 1 << 6;
 const D: u64 = 1 << 7;
 const HIGH: u64 = 0x3FF << 54;
 
+/// The bits that tell an entry that leads to a table from every other one.
+const KIND: u64 = HIGH | V | R | W | X | U | A | D;
+
+/// The page that an entry names; bits 63:54 are 0 wherever it is used.
+#[inline(always)]
+fn page_of(entry: u64) -> u64 {
+    entry << 2 & !0xFFF
+}
+
 /// What a leaf must have for an access; U is the stage's own.
 #[inline]
 fn needs(access: Access) -> u64 {
-    match access {
-        Access::Read => V | R | A,
-        Access::Write => V | R | W | A | D,
-        Access::Execute => V | X | A,
+    // Reads and writes come mixed, so that a branch here would often be guessed wrong.
+    static NEEDS: [u64; 3] = [V | R | A, V | R | W | A | D, V | X | A];
+    NEEDS[access as usize]
+}
+
+/// What a leaf must have under a mask.
+#[derive(Clone, Copy)]
+struct Needs {
+    mask: u64,
+    value: u64,
+}
+
+impl Needs {
+    /// Whether a leaf has them, and its page is aligned to the bits of an address that it keeps.
+    #[inline(always)]
+    fn met(self, entry: u64, page: u64, kept: u64) -> bool {
+        entry & self.mask == self.value && entry & (R | W) != W && page & kept == 0
     }
 }
 
@@ -149,79 +172,131 @@ enum Broken {
     Entry,
 }
 
-/// The window as doublewords.
+/// The leaf that a walk ended in: its page, and the bits of an address that it keeps.
+#[derive(Clone, Copy)]
+struct Leaf {
+    page: u64,
+    kept: u64,
+}
+
+impl Leaf {
+    /// Where an address leads.
+    #[inline(always)]
+    fn target(self, address: u64) -> u64 {
+        self.page + (address & self.kept)
+    }
+}
+
+/// One walk from the root down; `read` gives the entry at a place of a table.
+#[inline(always)]
+fn walk<E: From<Broken>>(
+    tables: Tables,
+    root_index: u64,
+    address: u64,
+    needs: Needs,
+    read: impl Fn(u64, u64) -> Result<u64, E>,
+) -> Result<Leaf, E> {
+    let Tables { root, mut shift } = tables;
+    let (mut table, mut place) = (root, root_index * 8);
+    loop {
+        let entry = read(table, place)?;
+        // Here, and not in each branch, so that it needn't wait for what the entry is.
+        let page = page_of(entry);
+        if entry & KIND == V && shift > 12 {
+            shift -= 9;
+            (table, place) = (page, (address >> shift & 0x1FF) * 8);
+            continue;
+        }
+        let kept = (1 << shift) - 1;
+        if needs.met(entry, page, kept) {
+            return Ok(Leaf { page, kept });
+        }
+        return Err(Broken::Entry.into());
+    }
+}
+
+/// The window.
 #[derive(Clone, Copy)]
 struct Memory<'a> {
     start: u64,
-    words: &'a [[u8; 8]],
+    bytes: &'a [u8],
 }
 
-impl<'a> Memory<'a> {
-    #[inline]
-    fn new(start: u64, window: &'a [u8]) -> Memory<'a> {
-        Memory {
-            start,
-            words: window.as_chunks().0,
-        }
-    }
-
-    /// The doubleword at an address; an address below the start wraps to one beyond the end.
-    #[inline]
-    fn load(self, address: u64) -> Option<u64> {
-        let place = address.wrapping_sub(self.start) / 8;
-        let word = self.words.get(place as usize)?;
+impl Memory<'_> {
+    /// The doubleword so far from the start; an address below the start is farther than the end.
+    #[inline(always)]
+    fn at(self, distance: u64) -> Option<u64> {
+        let word = self.bytes.get(distance as usize..)?.first_chunk()?;
         Some(u64::from_le_bytes(*word))
     }
 
+    #[inline(always)]
+    fn load(self, address: u64) -> Option<u64> {
+        self.at(address.wrapping_sub(self.start))
+    }
+
     /// So many doublewords in a row.
-    #[inline]
+    #[inline(always)]
     fn load_all<const N: usize>(self, address: u64) -> Option<[u64; N]> {
-        let place = address.wrapping_sub(self.start) / 8;
-        let words: &[[u8; 8]; N] = self.words.get(place as usize..)?.first_chunk()?;
+        let distance = address.wrapping_sub(self.start);
+        let (words, _) = self.bytes.get(distance as usize..)?.as_chunks();
+        let words: &[[u8; 8]; N] = words.first_chunk()?;
         Some(words.map(u64::from_le_bytes))
     }
 
-    /// One walk from the root down; `root_mask` is the width of the root's index, `need` what a
-    /// leaf has under `mask`, and `reach` finds an entry's own place.
+    /// The entry at a place of a table.
     #[inline(always)]
-    fn walk<E: From<Broken>>(
-        self,
-        tables: Tables,
-        root_mask: u64,
-        address: u64,
-        mask: u64,
-        need: u64,
-        reach: impl Fn(u64) -> Result<u64, E>,
-    ) -> Result<u64, E> {
-        let Tables { root, mut shift } = tables;
-        let mut place = root + (address >> shift & root_mask) * 8;
-        loop {
-            let Some(entry) = self.load(reach(place)?) else {
-                return Err(Broken::Load.into());
-            };
-            // Bits 63:54 are 0 wherever the page is used.
-            let page = entry << 2 & !0xFFF;
-            if entry & (HIGH | V | R | W | X | U | A | D) == V && shift > 12 {
-                shift -= 9;
-                place = page + (address >> shift & 0x1FF) * 8;
-                continue;
-            }
-            let offset = (1 << shift) - 1;
-            if entry & mask == need && entry & (R | W) != W && page & offset == 0 {
-                return Ok(page | address & offset);
-            }
-            return Err(Broken::Entry.into());
+    fn entry(self, table: u64, place: u64) -> Result<u64, Broken> {
+        // The place is known before the table is, so that the start is taken off in time.
+        let distance = table.wrapping_add(place.wrapping_sub(self.start));
+        self.at(distance).ok_or(Broken::Load)
+    }
+
+    /// The second stage's leaf for a guest address.
+    #[inline(always)]
+    fn second_leaf(self, tables: Tables, address: u64, need: u64) -> Result<Leaf, Broken> {
+        let index = address >> tables.shift;
+        if index > 0x7FF {
+            return Err(Broken::Entry);
         }
+        let needs = Needs {
+            mask: HIGH | need | U,
+            value: need | U,
+        };
+        walk(tables, index, address, needs, |table, place| {
+            self.entry(table, place)
+        })
     }
 
     /// A guest address, by the second stage.
-    #[inline]
+    #[inline(always)]
     fn second_stage(self, tables: Tables, address: u64, need: u64) -> Result<u64, Broken> {
-        if address >> tables.shift > 0x7FF {
-            return Err(Broken::Entry);
-        }
-        let need = need | U;
-        self.walk(tables, 0x7FF, address, HIGH | need, need, Ok)
+        let leaf = self.second_leaf(tables, address, need)?;
+        Ok(leaf.target(address))
+    }
+
+    /// The first stage's leaf for an address; its tables lie at guest addresses where a second stage is.
+    #[inline(always)]
+    fn first_leaf(
+        self,
+        tables: Tables,
+        second: Second,
+        address: u64,
+        needs: Needs,
+    ) -> Result<Leaf, FirstBroken> {
+        let index = address >> tables.shift & 0x1FF;
+        let Some(guest) = second else {
+            return walk(tables, index, address, needs, |table, place| {
+                Ok(self.entry(table, place)?)
+            });
+        };
+        walk(tables, index, address, needs, |table, place| {
+            let place = table + place;
+            let leaf = self
+                .second_leaf(guest, place, V | R | A)
+                .map_err(FirstBroken::Guest)?;
+            Ok(self.entry(leaf.page, place & leaf.kept)?)
+        })
     }
 }
 
@@ -252,7 +327,11 @@ pub fn request(start: u64, window: &mut [u8], mode: u64, root: u64, request: &Re
     if let Some(number) = refusal(start, window.len() as u64, mode, root, request) {
         return Answer::Refused(number);
     }
-    match translate(Memory::new(start, window), mode, root, request) {
+    let memory = Memory {
+        start,
+        bytes: window,
+    };
+    match translate(memory, mode, root, request) {
         Ok(Found::Translated(address)) => Answer::Translated(address),
         Ok(Found::Redirected(address)) => Answer::Redirected(address),
         Ok(Found::Record(first, second)) => record(start, window, request, first, second),
@@ -535,22 +614,17 @@ fn first_stage(
         return Err(page_fault(access));
     }
     let need = needs(access);
-    let mask = HIGH | need | if iosatp & ANY_U == 0 { U } else { 0 };
-    let need = if request.supervisor { need } else { need | U };
-    let reach = |address: u64| match second {
-        None => Ok(address),
-        Some(tables) => memory
-            .second_stage(tables, address, needs(Access::Read))
-            .map_err(FirstBroken::Guest),
+    let needs = Needs {
+        mask: HIGH | need | if iosatp & ANY_U == 0 { U } else { 0 },
+        value: if request.supervisor { need } else { need | U },
     };
-    memory
-        .walk(tables, 0x1FF, request.address, mask, need, reach)
-        .map_err(|broken| match broken {
-            FirstBroken::Own(Broken::Load) => access_fault(access, Stage::First),
-            FirstBroken::Own(Broken::Entry) => page_fault(access),
-            FirstBroken::Guest(Broken::Load) => access_fault(access, Stage::Second),
-            FirstBroken::Guest(Broken::Entry) => guest_page_fault(access),
-        })
+    match memory.first_leaf(tables, second, request.address, needs) {
+        Ok(leaf) => Ok(leaf.target(request.address)),
+        Err(FirstBroken::Own(Broken::Load)) => Err(access_fault(access, Stage::First)),
+        Err(FirstBroken::Own(Broken::Entry)) => Err(page_fault(access)),
+        Err(FirstBroken::Guest(Broken::Load)) => Err(access_fault(access, Stage::Second)),
+        Err(FirstBroken::Guest(Broken::Entry)) => Err(guest_page_fault(access)),
+    }
 }
 
 /// Packs the bits of a value that the mask picks, a run of ones at a time.

@@ -4,10 +4,10 @@
 use yasmurekh_compare::{run, Comparison, Difference, Found, Library, Options, Reference, Side};
 use yasmurekh_reference::coverage::run_call;
 use yasmurekh_reference::generate::{Call, List};
-use yasmurekh_reference::mark::{Edge, Field, Mark, Setting, UserBit, Walk, Word};
+use yasmurekh_reference::mark::{Asked, Edge, Field, Mark, Setting, UserBit, Walk, Word};
 use yasmurekh_reference::text::read_lists;
 use yasmurekh_reference::types::{guest_page_fault, page_fault};
-use yasmurekh_reference::{report, Access, Answer, Report, Request, Stage};
+use yasmurekh_reference::{report, Access, Answer, Pair, Report, Request, Stage};
 
 /// A side with something done to its answers, its windows and its reports.
 struct Mutant<S> {
@@ -218,6 +218,132 @@ fn a_made_up_count() {
     ));
     assert_eq!(found.smallest.calls.len(), 1);
     assert_eq!(ones(&found.smallest), 1);
+}
+
+/// The library behind checks of its own, two of which may stand in the other order.
+struct OtherOrder {
+    /// Where the first number refuses such a call and the second check is broken too, the second
+    /// refuses.
+    swapped: Option<(Asked, u64, u64)>,
+}
+
+fn broken_window(start: u64, length: usize) -> bool {
+    let whole = start.is_multiple_of(4_096) && length.is_multiple_of(4_096);
+    !whole || u128::from(start) + length as u128 > 1 << 56
+}
+
+fn broken_file(start: u64, length: usize, file: u64) -> bool {
+    let end = u128::from(start) + length as u128;
+    !file.is_multiple_of(512) || file < start || u128::from(file) + 512 > end
+}
+
+/// The checks of a call by their numbers, each with whether it is broken.
+fn checks(start: u64, length: usize, call: &Call) -> Vec<(u64, bool)> {
+    let window = (2001, broken_window(start, length));
+    match call {
+        Call::Request {
+            mode,
+            root,
+            request,
+            ..
+        } => {
+            let process = request.process_id;
+            let room = 4_096 - request.address % 4_096;
+            vec![
+                window,
+                (2002, *mode > 4 || root >> 44 != 0),
+                (2003, request.device_id >> 24 != 0),
+                (2004, process.is_some_and(|process| process >> 20 != 0)),
+                (2005, request.supervisor && process.is_none()),
+                (2006, request.length == 0 || request.length > room),
+            ]
+        }
+        Call::Take { file, identity } => vec![
+            window,
+            (2008, broken_file(start, length, *file)),
+            (2009, *identity > 2_047),
+        ],
+    }
+}
+
+impl OtherOrder {
+    fn refusal(&self, asked: Asked, checks: &[(u64, bool)]) -> Option<u64> {
+        let mut broken = checks.iter().filter(|(_, broken)| *broken);
+        let (first, _) = *broken.next()?;
+        match self.swapped {
+            Some((of, number, other)) if of == asked && number == first => {
+                let other_is_broken = broken.any(|(number, _)| *number == other);
+                Some(if other_is_broken { other } else { first })
+            }
+            _ => Some(first),
+        }
+    }
+}
+
+impl Side for OtherOrder {
+    fn call(&mut self, start: u64, window: &mut [u8], call: &Call) -> Answer {
+        let asked = match call {
+            Call::Request { .. } => Asked::Request,
+            Call::Take { .. } => Asked::Take,
+        };
+        match self.refusal(asked, &checks(start, window.len(), call)) {
+            Some(number) => Answer::Refused(number),
+            None => Library.call(start, window, call),
+        }
+    }
+
+    fn report(&mut self, start: u64, window: &[u8], file: u64) -> Report {
+        let checks = [
+            (2001, broken_window(start, window.len())),
+            (2008, broken_file(start, window.len(), file)),
+        ];
+        match self.refusal(Asked::Report, &checks) {
+            Some(refusal) => Report {
+                refusal,
+                count: 0,
+                pairs: [Pair::default(); 32],
+            },
+            None => Library.report(start, window, file),
+        }
+    }
+}
+
+#[test]
+fn no_difference_with_the_checks_in_order() {
+    let mut comparison = Comparison::new(OtherOrder { swapped: None }, Reference::default());
+    let outcome = run(&mut comparison, &OPTIONS, &mut std::io::sink());
+    assert_eq!(outcome.found, None);
+}
+
+#[test]
+fn two_checks_in_the_other_order() {
+    let mut swapped = 0;
+    for mark in Mark::all() {
+        let Mark::Before(asked, first, other) = mark else {
+            continue;
+        };
+        println!("# {}", mark.name());
+        let order = OtherOrder {
+            swapped: Some((asked, first, other)),
+        };
+        let found = find(order, Reference::default());
+        assert_eq!(found.smallest.calls.len(), 1);
+        let refusals = match found.smallest_difference {
+            Difference::Answer {
+                library: Answer::Refused(library),
+                reference: Answer::Refused(reference),
+                ..
+            } => [library, reference],
+            Difference::Report {
+                library, reference, ..
+            } => [library.refusal, reference.refusal],
+            different => panic!("{}: {different}", mark.name()),
+        };
+        assert_eq!(refusals, [other, first], "{}", mark.name());
+        swapped += 1;
+    }
+    // Every two of six checks but 2004 and 2005, of which only one can be broken; of three; of two.
+    assert_eq!(swapped, 14 + 3 + 1);
 }
 
 /// The reference with another rule of U for supervisors.

@@ -212,10 +212,11 @@ mod tests {
         assert_eq!(coverage.calls, 20_000);
     }
 
-    /// A mark with the word that it must not have: a page opened or barred, an edge passed or not, a
-    /// field accepted or refused the wrong way round.
+    /// A mark with the word that it must not have: two checks in the other order, a page opened or
+    /// barred, an edge passed or not, a field accepted or refused the wrong way round.
     fn wrong_word(mark: Mark) -> Option<Mark> {
         match mark {
+            Mark::Before(asked, first, other) => Some(Mark::Before(asked, other, first)),
             Mark::User(walk, mut look) => {
                 look.open = !look.open;
                 Some(Mark::User(walk, look))
@@ -234,8 +235,9 @@ mod tests {
         };
         assert!(whole.holds());
         let wrong: Vec<Mark> = Mark::all().into_iter().filter_map(wrong_word).collect();
-        // The rule of U has 42 rows, the schemes' edges 26, the fields 64, 16 and 130.
-        assert_eq!(wrong.len(), 42 + 26 + 64 + 16 + 130);
+        // The order of refusals has 14, 3 and 1 rows, the rule of U 42, the schemes' edges 26, the
+        // fields 64, 16 and 130.
+        assert_eq!(wrong.len(), 14 + 3 + 1 + 42 + 26 + 64 + 16 + 130);
         for mark in wrong {
             let mut coverage = whole.clone();
             coverage.marks.insert(mark, 1);

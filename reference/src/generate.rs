@@ -91,20 +91,38 @@ fn take_call(world: &mut World, stored: &[(u64, u64)]) -> Call {
             identity = random.below(2_048);
         }
         84..=86 => file = start + random.below(length / 512) * 512,
-        87..=88 => file += random.between(1, 511),
-        89..=90 => file = start.saturating_sub(512),
-        91..=92 => file = start.saturating_add(length),
-        93 => file = random.number() & !511,
-        94 => file = u64::MAX,
-        95..=96 => identity = 2_048,
-        97 => identity = random.number(),
-        98 => identity = u64::MAX,
-        _ => (file, identity) = (random.number(), random.number()),
+        87..=94 => file = bad_file(random, start, length, file),
+        95..=98 => identity = bad_identity(random),
+        _ => {
+            file = bad_file(random, start, length, file);
+            identity = bad_identity(random);
+        }
     }
     Call::Take { file, identity }
 }
 
-/// A request at one of the targets, at times with one field changed.
+/// A file that 2008 refuses: off its alignment, or beside the window.
+fn bad_file(random: &mut Random, start: u64, length: u64, file: u64) -> u64 {
+    match random.below(8) {
+        0..=1 => file + random.between(1, 511),
+        2..=3 => start.saturating_sub(512),
+        4..=5 => start.saturating_add(length),
+        6 => random.number() & !511,
+        _ => u64::MAX,
+    }
+}
+
+/// An identity that 2009 refuses.
+fn bad_identity(random: &mut Random) -> u64 {
+    match random.below(4) {
+        0..=1 => 2_048,
+        2 => random.number(),
+        _ => u64::MAX,
+    }
+}
+
+/// A request at one of the targets, at times with one field changed, at times with several checks
+/// broken.
 fn request_call(world: &mut World, stored: &mut Vec<(u64, u64)>) -> Call {
     let target = choose_target(world);
     let random = &mut world.random;
@@ -130,6 +148,8 @@ fn request_call(world: &mut World, stored: &mut Vec<(u64, u64)>) -> Call {
         (mode, root) = change_settings(random, mode, root, world.layout.start);
     } else if random.chance(18) {
         change_request(random, &mut request);
+    } else if random.chance(2) {
+        (mode, root) = break_checks(random, mode, root, &mut request);
     }
     Call::Request {
         mode,
@@ -222,7 +242,7 @@ fn change_settings(random: &mut Random, mode: u64, root: u64, start: u64) -> (u6
         0 => (0, root),
         1..=2 => (1, root),
         3 => (random.between(2, 4), root),
-        4 => (random.pick(&[5, 15, 256, u64::MAX]), root),
+        4 => (bad_mode(random), root),
         5 => (random.number(), root),
         6 => (mode, random.pick(&[1 << 44, u64::MAX, (1 << 44) - 1])),
         7 => (mode, root ^ 1 << random.below(64)),
@@ -236,14 +256,14 @@ fn change_request(random: &mut Random, request: &mut Request) {
     match random.below(14) {
         0 => request.device_id ^= 1 << random.below(24),
         1 => request.device_id = random.of_width(24),
-        2 => request.device_id = random.pick(&[1 << 24, u64::MAX, 1 << 32]),
+        2 => request.device_id = wide_device(random),
         3 => request.process_id = None,
         4 => request.process_id = Some(random.of_width(20)),
         5 => request.process_id = Some(random.pick(&[1 << 8, 1 << 17, 0xF_FFFF, 0])),
-        6 => request.process_id = Some(random.pick(&[1 << 20, u64::MAX, 1 << 21])),
+        6 => request.process_id = Some(wide_process(random)),
         7 => request.supervisor = !request.supervisor,
         8 => request.length = random.pick(&[0, 4_097, u64::MAX, 5, 3]),
-        9 => request.length = 4_096 - request.address % 4_096 + random.between(1, 9),
+        9 => request.length = crossing_length(random, request.address),
         10 => request.address ^= 1 << random.below(64),
         11..=12 => {
             request.address = edge_address(random);
@@ -251,6 +271,52 @@ fn change_request(random: &mut Random, request: &mut Request) {
         }
         _ => request.access = random.pick(&Access::ALL),
     }
+}
+
+/// Breaks two of the checks 2002 to 2006, at times three or four; gives mode and root.
+fn break_checks(
+    random: &mut Random,
+    mut mode: u64,
+    mut root: u64,
+    request: &mut Request,
+) -> (u64, u64) {
+    // A process_id that is too wide isn't absent, so 2004 and 2005 are never broken at once.
+    let mut checks = vec![2002, 2003, random.pick(&[2004, 2005]), 2006];
+    for _ in 0..random.pick(&[0, 1, 2, 2, 2]) {
+        checks.swap_remove(random.below(checks.len() as u64) as usize);
+    }
+    for check in checks {
+        match check {
+            2002 if random.chance(50) => mode = bad_mode(random),
+            2002 => root = random.pick(&[1 << 44, u64::MAX]),
+            2003 => request.device_id = wide_device(random),
+            2004 => request.process_id = Some(wide_process(random)),
+            2005 => (request.supervisor, request.process_id) = (true, None),
+            _ if random.chance(50) => request.length = 0,
+            _ => request.length = crossing_length(random, request.address),
+        }
+    }
+    (mode, root)
+}
+
+/// A directory mode that 2002 refuses.
+fn bad_mode(random: &mut Random) -> u64 {
+    random.pick(&[5, 15, 256, u64::MAX])
+}
+
+/// A device_id that 2003 refuses.
+fn wide_device(random: &mut Random) -> u64 {
+    random.pick(&[1 << 24, u64::MAX, 1 << 32])
+}
+
+/// A process_id that 2004 refuses.
+fn wide_process(random: &mut Random) -> u64 {
+    random.pick(&[1 << 20, u64::MAX, 1 << 21])
+}
+
+/// A length by which an access at an address leaves its page, so that 2006 refuses it.
+fn crossing_length(random: &mut Random, address: u64) -> u64 {
+    4_096 - address % 4_096 + random.between(1, 9)
 }
 
 /// Addresses at the limits of the schemes, and of untranslated ones.

@@ -2,7 +2,7 @@
 
 use crate::device::{self, DeviceContext};
 use crate::file::{self, FILE_SIZE};
-use crate::mark::{Mark, Point, See, Walk, Word};
+use crate::mark::{Asked, Mark, Point, See, Walk, Word};
 use crate::memory::Window;
 use crate::message::{self, MessageEntry};
 use crate::paging::{self, FirstStage, Page};
@@ -37,13 +37,9 @@ pub fn request_observed(
     data: u32,
     see: See,
 ) -> Answer {
-    if let Some(point) = refused_window(settings.start, window.len()) {
-        see(Mark::Point(point));
-        see(Mark::Point(Point::RequestRefused2001));
-        return Answer::Refused(2001);
-    }
-    if let Some((number, point)) = refused_request(settings, request) {
-        see(Mark::Point(point));
+    let mut broken = Vec::from_iter(broken_window(settings.start, window.len()));
+    broken.extend(broken_request(settings, request));
+    if let Some(number) = refuse(Asked::Request, &broken, see) {
         return Answer::Refused(number);
     }
     let mut task = Task {
@@ -66,34 +62,56 @@ pub fn request_observed(
     }
 }
 
-/// Refusal 2001.
-fn refused_window(start: u64, length: usize) -> Option<Point> {
+/// A broken check: the number that it refuses with, and its mark.
+type Broken = (u64, Point);
+
+/// The number of the first broken check, none where nothing is broken; the observer is told of the
+/// check, and of those that it comes before.
+fn refuse(asked: Asked, broken: &[Broken], see: See) -> Option<u64> {
+    let (number, point) = *broken.first()?;
+    see(Mark::Point(point));
+    match (asked, number) {
+        (Asked::Request, 2001) => see(Mark::Point(Point::RequestRefused2001)),
+        (Asked::Take, 2001) => see(Mark::Point(Point::TakeRefused2001)),
+        (Asked::Take, 2008) => see(Mark::Point(Point::TakeRefused2008)),
+        (Asked::Report, 2001) => see(Mark::Point(Point::ReportRefused2001)),
+        (Asked::Report, 2008) => see(Mark::Point(Point::ReportRefused2008)),
+        _ => {}
+    }
+    for (other, _) in broken.iter().filter(|(other, _)| *other != number) {
+        see(Mark::Before(asked, number, *other));
+    }
+    Some(number)
+}
+
+/// Check 2001.
+fn broken_window(start: u64, length: usize) -> Option<Broken> {
     let length = length as u128;
-    first_broken(&[
+    let point = first_broken(&[
         (!start.is_multiple_of(4_096), Point::R2001Start),
         (!length.is_multiple_of(4_096), Point::R2001Length),
         (u128::from(start) + length > 1 << 56, Point::R2001High),
-    ])
+    ])?;
+    Some((2001, point))
 }
 
-/// Refusals 2002 to 2006, in order.
-fn refused_request(settings: &Settings, request: &Request) -> Option<(u64, Point)> {
+/// Checks 2002 to 2006: those that are broken, in order.
+fn broken_request(settings: &Settings, request: &Request) -> Vec<Broken> {
     let offset = u128::from(request.address % 4_096);
     let end = offset + u128::from(request.length);
     let process_wide = request.process_id.is_some_and(|process| process >= 1 << 20);
     let lonely_supervisor = request.supervisor && request.process_id.is_none();
     let rows = [
-        (settings.mode > 4, 2002, Point::R2002Mode),
-        (settings.root >= 1 << 44, 2002, Point::R2002Root),
-        (request.device_id >= 1 << 24, 2003, Point::R2003),
-        (process_wide, 2004, Point::R2004),
-        (lonely_supervisor, 2005, Point::R2005),
-        (request.length == 0, 2006, Point::R2006Zero),
-        (end > 4_096, 2006, Point::R2006Crossing),
+        (settings.mode > 4, (2002, Point::R2002Mode)),
+        (settings.root >= 1 << 44, (2002, Point::R2002Root)),
+        (request.device_id >= 1 << 24, (2003, Point::R2003)),
+        (process_wide, (2004, Point::R2004)),
+        (lonely_supervisor, (2005, Point::R2005)),
+        (request.length == 0, (2006, Point::R2006Zero)),
+        (end > 4_096, (2006, Point::R2006Crossing)),
     ];
-    rows.iter()
-        .find(|(broken, _, _)| *broken)
-        .map(|(_, number, point)| (*number, *point))
+    let broken = rows.into_iter().filter(|(broken, _)| *broken);
+    broken.map(|(_, check)| check).collect()
 }
 
 /// 003, Process to translate an IOVA.
@@ -353,19 +371,20 @@ fn store(start: u64, window: &mut [u8], place: &Store, see: See) -> Answer {
     }
 }
 
-/// Refusal 2008.
-fn refused_file(start: u64, window: &[u8], file: u64) -> Option<Point> {
+/// Check 2008.
+fn broken_file(start: u64, window: &[u8], file: u64) -> Option<Broken> {
     let view = Window {
         start,
         bytes: window,
     };
     let outside = !view.holds(file, FILE_SIZE);
-    first_broken(&[
+    let point = first_broken(&[
         (!file.is_multiple_of(FILE_SIZE), Point::R2008Misaligned),
         (window.is_empty(), Point::R2008Empty),
         (outside && file < start, Point::R2008Below),
         (outside, Point::R2008Above),
-    ])
+    ])?;
+    Some((2008, point))
 }
 
 /// The take of one pending interrupt.
@@ -375,19 +394,11 @@ pub fn take(start: u64, window: &mut [u8], file: u64, identity: u64) -> Answer {
 
 /// The take; the observer is told of each check that decides.
 pub fn take_observed(start: u64, window: &mut [u8], file: u64, identity: u64, see: See) -> Answer {
-    if let Some(point) = refused_window(start, window.len()) {
-        see(Mark::Point(point));
-        see(Mark::Point(Point::TakeRefused2001));
-        return Answer::Refused(2001);
-    }
-    if let Some(point) = refused_file(start, window, file) {
-        see(Mark::Point(point));
-        see(Mark::Point(Point::TakeRefused2008));
-        return Answer::Refused(2008);
-    }
-    if identity > 2_047 {
-        see(Mark::Point(Point::R2009));
-        return Answer::Refused(2009);
+    let mut broken = Vec::from_iter(broken_window(start, window.len()));
+    broken.extend(broken_file(start, window, file));
+    broken.extend((identity > 2_047).then_some((2009, Point::R2009)));
+    if let Some(number) = refuse(Asked::Take, &broken, see) {
+        return Answer::Refused(number);
     }
     let offset = (file - start) as usize;
     let was_pending = file::take(&mut window[offset..offset + 512], identity);
@@ -410,16 +421,10 @@ pub fn report_observed(start: u64, window: &[u8], file: u64, see: See) -> Report
         count: 0,
         pairs: [Pair::default(); 32],
     };
-    if let Some(point) = refused_window(start, window.len()) {
-        see(Mark::Point(point));
-        see(Mark::Point(Point::ReportRefused2001));
-        report.refusal = 2001;
-        return report;
-    }
-    if let Some(point) = refused_file(start, window, file) {
-        see(Mark::Point(point));
-        see(Mark::Point(Point::ReportRefused2008));
-        report.refusal = 2008;
+    let mut broken = Vec::from_iter(broken_window(start, window.len()));
+    broken.extend(broken_file(start, window, file));
+    if let Some(number) = refuse(Asked::Report, &broken, see) {
+        report.refusal = number;
         return report;
     }
     let offset = (file - start) as usize;

@@ -227,6 +227,26 @@ named!(
     }
 );
 
+named!(
+    /// The calls, whose checks stand in an order.
+    Asked {
+        Request = "request",
+        Take = "take",
+        Report = "report",
+    }
+);
+
+impl Asked {
+    /// 01, the table of refusals: the call's checks before any other step, in order.
+    fn checks(self) -> &'static [u64] {
+        match self {
+            Asked::Request => &[2001, 2002, 2003, 2004, 2005, 2006],
+            Asked::Take => &[2001, 2008, 2009],
+            Asked::Report => &[2001, 2008],
+        }
+    }
+}
+
 /// A field of a context, as a check of its bits sees it.
 #[derive(Clone, Copy, Debug, PartialEq, Eq, PartialOrd, Ord)]
 pub enum Field {
@@ -317,6 +337,8 @@ impl UserBit {
 pub enum Mark {
     /// A check or outcome that stands alone.
     Point(Point),
+    /// A call that is refused with the first number, while the check of the second is broken too.
+    Before(Asked, u64, u64),
     /// A walk's reason for its fault.
     Entry(Walk, EntryFault),
     /// A walk's look at the U bit of a leaf: all of the first stage; of the second stage those for
@@ -403,6 +425,23 @@ pub fn can_arise(walk: Walk, reason: EntryFault) -> bool {
         }
         _ => true,
     }
+}
+
+/// Every two checks of a call that can be broken at once.
+fn order_marks() -> Vec<Mark> {
+    let mut marks = Vec::new();
+    for &asked in Asked::ALL {
+        let checks = asked.checks();
+        for (place, &first) in checks.iter().enumerate() {
+            for &other in &checks[place + 1..] {
+                // A process_id that is too wide isn't absent.
+                if (first, other) != (2004, 2005) {
+                    marks.push(Mark::Before(asked, first, other));
+                }
+            }
+        }
+    }
+    marks
 }
 
 /// The marks of the rule of U, each with the word that it must have.
@@ -515,6 +554,7 @@ impl Mark {
     /// Every mark that can arise, in the order of the table.
     pub fn all() -> Vec<Mark> {
         let mut marks: Vec<Mark> = Point::ALL.iter().map(|point| Mark::Point(*point)).collect();
+        marks.append(&mut order_marks());
         for &walk in Walk::ALL {
             for &reason in EntryFault::ALL {
                 if can_arise(walk, reason) {
@@ -543,6 +583,7 @@ impl Mark {
     pub fn group(self) -> &'static str {
         match self {
             Mark::Point(_) => "checks and outcomes",
+            Mark::Before(..) => "order of refusals, two checks broken",
             Mark::Entry(walk, _) => walk.name(),
             Mark::User(Walk::First, look) => match look.sum {
                 Some(_) => "rule of U, first stage of a process context",
@@ -566,6 +607,9 @@ impl Mark {
     pub fn name(self) -> String {
         match self {
             Mark::Point(point) => point.name().to_string(),
+            Mark::Before(asked, first, other) => {
+                format!("{}: {first} before {other}", asked.name())
+            }
             Mark::Entry(_, reason) => reason.name().to_string(),
             Mark::User(Walk::First, look) => look.name(),
             Mark::User(walk, look) => format!("{}: {}", walk.name(), look.name()),

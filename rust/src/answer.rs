@@ -27,24 +27,24 @@ pub enum Answer {
 
 impl Answer {
     /// The five words of the face for C: kind, three values, stage.
-    pub(crate) fn from_words([kind, first, second, third, stage]: [u64; 5]) -> Answer {
-        match kind {
-            0 => Answer::Translated(first),
-            1 => Answer::Redirected(first),
-            2 => Answer::Stored {
-                file: first,
-                notice: Notice {
-                    address: second,
-                    number: third,
-                },
+    pub(crate) fn from_words(words: [u64; 5]) -> Answer {
+        if let Some(place) = words.iter().position(|word| *word == UNWRITTEN) {
+            another_version("answer without word", place as u64);
+        }
+        match words {
+            [0, address, 0, 0, 0] => Answer::Translated(address),
+            [1, address, 0, 0, 0] => Answer::Redirected(address),
+            [2, file, address, number, 0] => Answer::Stored {
+                file,
+                notice: Notice { address, number },
             },
-            3 => Answer::Discarded,
-            4 => Answer::Fault(Fault {
-                cause: first,
+            [3, 0, 0, 0, 0] => Answer::Discarded,
+            [4, cause, 0, 0, stage] => Answer::Fault(Fault {
+                cause,
                 stage: Stage::from_number(stage),
             }),
-            5 => Answer::Refused(Refusal::from_number(first)),
-            _ => another_version("answer", kind),
+            [5, number, 0, 0, 0] => Answer::Refused(Refusal::from_number(number)),
+            [kind, ..] => another_version("answer", kind),
         }
     }
 
@@ -74,12 +74,22 @@ impl fmt::Display for Answer {
     }
 }
 
+/// What the words that a call answers in hold before it. Only a pair of a report may be this after it.
+pub(crate) const UNWRITTEN: u64 = u64::MAX;
+
+/// The status of a call that is never refused by it.
+pub(crate) fn done(status: u64) {
+    if status != 0 {
+        another_version("status", status);
+    }
+}
+
 /// A take's words: whether the interrupt was pending, or the refusal.
-pub(crate) fn taken([kind, first, ..]: [u64; 5]) -> Result<bool, Refusal> {
-    match kind {
-        5 => Err(Refusal::from_number(first)),
-        6 => Ok(first == 1),
-        _ => another_version("answer of a take", kind),
+pub(crate) fn taken(words: [u64; 5]) -> Result<bool, Refusal> {
+    match words {
+        [5, number, 0, 0, 0] => Err(Refusal::from_number(number)),
+        [6, pending @ (0 | 1), 0, 0, 0] => Ok(pending == 1),
+        [kind, ..] => another_version("answer of a take", kind),
     }
 }
 
@@ -87,22 +97,37 @@ pub(crate) fn taken([kind, first, ..]: [u64; 5]) -> Result<bool, Refusal> {
 pub(crate) fn wired(status: u64) -> Result<(), Refusal> {
     match status {
         0 => Ok(()),
-        _ => Err(Refusal::from_number(status)),
+        2014 => Err(Refusal::Source),
+        _ => another_version("status of a wire change", status),
     }
 }
 
-/// What a call about a hart hands out, or the refusal, whose number is that of a wire change.
-pub(crate) fn of_hart(status: u64, value: u64) -> Result<u64, Refusal> {
-    match wired(status) {
-        Ok(()) => Ok(value),
-        Err(Refusal::Source) => Err(Refusal::Hart),
-        Err(_) => another_version("refusal of a hart", status),
+/// The status of a call about a hart: done, or the refusal.
+pub(crate) fn of_hart(status: u64) -> Result<(), Refusal> {
+    match status {
+        0 => Ok(()),
+        2014 => Err(Refusal::Hart),
+        _ => another_version("status of a call about a hart", status),
+    }
+}
+
+/// The 32 bits of a register.
+pub(crate) fn register(word: u64) -> u32 {
+    u32::try_from(word).unwrap_or_else(|_| another_version("value of a register", word))
+}
+
+/// Yes or no.
+pub(crate) fn bit(word: u64) -> bool {
+    match word {
+        0 => false,
+        1 => true,
+        _ => another_version("signal", word),
     }
 }
 
 /// The library answers no number that this crate doesn't name.
 #[cold]
-fn another_version(what: &str, number: u64) -> ! {
+pub(crate) fn another_version(what: &str, number: u64) -> ! {
     panic!("the static library is of another version than this crate: {what} {number}")
 }
 
@@ -360,10 +385,12 @@ impl Report {
                 enable: words[1],
             };
         }
-        Ok(Report {
-            count: words[1],
-            pairs,
-        })
+        let count = words[1];
+        let pending: u32 = pairs.iter().map(|pair| pair.pending.count_ones()).sum();
+        if count != u64::from(pending) {
+            another_version("count", count);
+        }
+        Ok(Report { count, pairs })
     }
 
     /// Whether an interrupt is pending; false for an identity above 2,047.
@@ -394,5 +421,126 @@ impl Report {
         let pair = usize::try_from(identity / 64).ok();
         pair.and_then(|place| self.pairs.get(place))
             .is_some_and(|pair| bits(pair) >> (identity % 64) & 1 == 1)
+    }
+}
+
+#[cfg(test)]
+mod tests {
+    extern crate std;
+
+    use super::*;
+    use std::panic::catch_unwind;
+    use std::string::String;
+
+    const MESSAGE: &str = "the static library is of another version than this crate";
+
+    /// Sees that a call panics by [`another_version`].
+    #[track_caller]
+    fn refuses<T>(call: impl FnOnce() -> T + std::panic::UnwindSafe) {
+        let panic = catch_unwind(call).err().expect("a panic");
+        let text = panic.downcast_ref::<String>().expect("a text");
+        assert!(text.starts_with(MESSAGE), "{text}");
+    }
+
+    /// A status that a call never has: short buffer, and what no version of the face has named.
+    const UNKNOWN: [u64; 4] = [1, 2, 2001, u64::MAX];
+
+    #[test]
+    fn an_unknown_status() {
+        done(0);
+        assert_eq!(wired(0), Ok(()));
+        assert_eq!(wired(2014), Err(Refusal::Source));
+        assert_eq!(of_hart(0), Ok(()));
+        assert_eq!(of_hart(2014), Err(Refusal::Hart));
+        for status in UNKNOWN {
+            refuses(move || done(status));
+            refuses(move || wired(status));
+            refuses(move || of_hart(status));
+        }
+        refuses(|| done(2014));
+    }
+
+    #[test]
+    fn unknown_words_of_a_request() {
+        let fault = Fault {
+            cause: 13,
+            stage: Stage::First,
+        };
+        let notice = Notice {
+            address: 2,
+            number: 3,
+        };
+        let known = [
+            ([0, 1, 0, 0, 0], Answer::Translated(1)),
+            ([1, 1, 0, 0, 0], Answer::Redirected(1)),
+            ([2, 1, 2, 3, 0], Answer::Stored { file: 1, notice }),
+            ([3, 0, 0, 0, 0], Answer::Discarded),
+            ([4, 13, 0, 0, 2], Answer::Fault(fault)),
+            ([5, 2006, 0, 0, 0], Answer::Refused(Refusal::Length)),
+        ];
+        for (words, answer) in known {
+            assert_eq!(Answer::from_words(words), answer);
+            // Each word left unwritten.
+            for place in 0..5 {
+                let mut words = words;
+                words[place] = UNWRITTEN;
+                refuses(move || Answer::from_words(words));
+            }
+        }
+        for words in [
+            [6, 0, 0, 0, 0],
+            [7, 0, 0, 0, 0],
+            [0, 1, 0, 0, 1],
+            [0, 1, 1, 0, 0],
+            [3, 1, 0, 0, 0],
+            [4, 13, 0, 0, 5],
+            [4, 13, 1, 0, 2],
+            [5, 2010, 0, 0, 0],
+            [5, 2006, 0, 0, 1],
+        ] {
+            refuses(move || Answer::from_words(words));
+        }
+    }
+
+    #[test]
+    fn unknown_words_of_a_take() {
+        assert_eq!(taken([6, 0, 0, 0, 0]), Ok(false));
+        assert_eq!(taken([6, 1, 0, 0, 0]), Ok(true));
+        assert_eq!(taken([5, 2009, 0, 0, 0]), Err(Refusal::Identity));
+        for words in [
+            [UNWRITTEN; 5],
+            [0, 0, 0, 0, 0],
+            [5, UNWRITTEN, 0, 0, 0],
+            [6, 2, 0, 0, 0],
+            [6, UNWRITTEN, 0, 0, 0],
+            [6, 1, 0, 0, UNWRITTEN],
+        ] {
+            refuses(move || taken(words));
+        }
+    }
+
+    #[test]
+    fn unknown_words_of_a_report() {
+        let mut words = [0; 66];
+        (words[1], words[2], words[64]) = (5, 7, 3);
+        let report = Report::from_words(&words).expect("no refusal");
+        assert_eq!([report.count, report.pairs[31].pending], [5, 3]);
+        for place in (0..66).step_by(2).chain([1]) {
+            let mut words = words;
+            words[place] = UNWRITTEN;
+            refuses(move || Report::from_words(&words));
+        }
+        refuses(|| Report::from_words(&[UNWRITTEN; 66]));
+    }
+
+    #[test]
+    fn unknown_words_of_a_domain() {
+        assert_eq!(register(0xFFFF_FFFF), u32::MAX);
+        assert_eq!([bit(0), bit(1)], [false, true]);
+        for word in [1 << 32, UNWRITTEN] {
+            refuses(move || register(word));
+            refuses(move || bit(word));
+        }
+        refuses(|| bit(2));
     }
 }

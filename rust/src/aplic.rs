@@ -81,6 +81,7 @@
 
 use core::fmt;
 
+use crate::answer::another_version;
 use crate::{face, Refusal};
 
 /// How a domain delivers interrupts.
@@ -174,12 +175,7 @@ impl Domain {
     /// out where its message goes. None, with nothing changed, where no source waits, IE of domaincfg
     /// is 0, or delivery is direct.
     pub fn forward(&mut self) -> Option<Message> {
-        let [sent, hart_index, guest_index, identity] = face::aplic_forward(&mut self.words);
-        (sent != 0).then_some(Target {
-            hart_index,
-            guest_index,
-            identity,
-        })
+        forwarded(face::aplic_forward(&mut self.words))
     }
 
     /// Claims the top interrupt of a hart, as a read of its claimi does: of the sources that are
@@ -195,7 +191,7 @@ impl Domain {
     /// [`Refusal::Hart`] where the number is above 15. Nothing changes then.
     pub fn claim(&mut self, hart: u64) -> Result<Option<Interrupt>, Refusal> {
         let value = face::aplic_claim(&mut self.words, hart)?;
-        Ok(Interrupt::from_topi(value as u32))
+        Ok(Interrupt::from_topi(value))
     }
 
     /// Whether a hart is signalled: IE of domaincfg and idelivery of the hart are 1, and its iforce or
@@ -205,8 +201,7 @@ impl Domain {
     ///
     /// [`Refusal::Hart`] where the number is above 15.
     pub fn signalled(&mut self, hart: u64) -> Result<bool, Refusal> {
-        let signal = face::aplic_signal(&mut self.words, hart)?;
-        Ok(signal != 0)
+        face::aplic_signal(&mut self.words, hart)
     }
 }
 
@@ -277,6 +272,22 @@ impl From<u32> for Target {
             guest_index: value >> 12 & 0x3F,
             identity: value & 0x7FF,
         }
+    }
+}
+
+/// A forward's words: 1, hart index, guest index, identity; all 0 where nothing is forwarded.
+fn forwarded(words: [u64; 4]) -> Option<Message> {
+    let [sent, hart_index, guest_index, identity] = words;
+    let message = Target {
+        hart_index,
+        guest_index,
+        identity,
+    };
+    match sent {
+        0 if message == Target::default() => None,
+        // A field that is too wide would be cut.
+        1 if message == Target::from(message.value()) => Some(message),
+        _ => another_version("forward", sent),
     }
 }
 
@@ -423,5 +434,37 @@ pub mod register {
     /// As [`topi`], and a read claims that interrupt.
     pub const fn claimi(hart: u64) -> u64 {
         of_hart(0x401C, hart)
+    }
+}
+
+#[cfg(test)]
+mod tests {
+    extern crate std;
+
+    use super::{forwarded, Target};
+    use crate::answer::UNWRITTEN;
+
+    #[test]
+    fn unknown_words_of_a_forward() {
+        let widest = Target {
+            hart_index: 0x3FFF,
+            guest_index: 0x3F,
+            identity: 0x7FF,
+        };
+        assert_eq!(forwarded([0; 4]), None);
+        assert_eq!(forwarded([1, 0x3FFF, 0x3F, 0x7FF]), Some(widest));
+        for words in [
+            [UNWRITTEN; 4],
+            [2, 0, 0, 0],
+            [0, 0, 0, 1],
+            [0, UNWRITTEN, UNWRITTEN, UNWRITTEN],
+            [1, 0x4000, 0, 0],
+            [1, 0, 0x40, 0],
+            [1, 0, 0, 0x800],
+            [1, 0, 0, UNWRITTEN],
+        ] {
+            let called = std::panic::catch_unwind(|| forwarded(words));
+            assert!(called.is_err(), "{words:?}");
+        }
     }
 }

@@ -1,7 +1,8 @@
 //! The face for C, called: all of this crate's `unsafe` is here.
 #![allow(unsafe_code)]
 
-use crate::{answer, Access, Privilege, Refusal, Request, Settings};
+use crate::answer::{self, UNWRITTEN};
+use crate::{Access, Privilege, Refusal, Request, Settings};
 
 mod c {
     extern "C" {
@@ -117,7 +118,7 @@ pub fn request(settings: &Settings, window: &mut [u8], request: &Request) -> [u6
         Privilege::User => 0,
         Privilege::Supervisor => SUPERVISOR,
     };
-    let mut out = [0; 5];
+    let mut out = [UNWRITTEN; 5];
     // SAFETY: each pointer is that of a mutable slice, passed with that slice's length and borrowed
     // until the call is over; `out` is a local, so the two share no byte. The routine is proved to
     // touch nothing else, and to end, for every value of the numbers.
@@ -139,13 +140,13 @@ pub fn request(settings: &Settings, window: &mut [u8], request: &Request) -> [u6
             out.len(),
         )
     };
-    debug_assert_eq!(status, 0);
+    answer::done(status);
     out
 }
 
 /// A take's words, as a request's.
 pub fn take(start: u64, window: &mut [u8], file: u64, identity: u64) -> [u64; 5] {
-    let mut out = [0; 5];
+    let mut out = [UNWRITTEN; 5];
     // SAFETY: as in `request`.
     let status = unsafe {
         c::yasmurekh_take(
@@ -158,13 +159,13 @@ pub fn take(start: u64, window: &mut [u8], file: u64, identity: u64) -> [u64; 5]
             out.len(),
         )
     };
-    debug_assert_eq!(status, 0);
+    answer::done(status);
     out
 }
 
 /// A report's words: refusal, count, then 32 pairs of pending and enable.
 pub fn report(start: u64, window: &[u8], file: u64) -> [u64; 66] {
-    let mut out = [0; 66];
+    let mut out = [UNWRITTEN; 66];
     // SAFETY: as in `request`; the window is passed to be read alone, and the routine is proved to
     // write nothing but `out`.
     let status = unsafe {
@@ -177,7 +178,7 @@ pub fn report(start: u64, window: &[u8], file: u64) -> [u64; 66] {
             out.len(),
         )
     };
-    debug_assert_eq!(status, 0);
+    answer::done(status);
     out
 }
 
@@ -197,7 +198,7 @@ pub fn aplic_write(state: &mut [u64; DOMAIN_WORDS], offset: u64, value: u32) {
     // SAFETY: as in `aplic_wire`.
     let status =
         unsafe { c::yasmurekh_aplic_write(state.as_mut_ptr(), state.len(), offset, value) };
-    debug_assert_eq!(status, 0);
+    answer::done(status);
 }
 
 /// A routine of the face that is given one number and hands out one word.
@@ -205,7 +206,7 @@ type Asked = unsafe extern "C" fn(*mut u64, usize, u64, *mut u64, usize) -> u64;
 
 /// Such a routine's status and word.
 fn ask(asked: Asked, state: &mut [u64; DOMAIN_WORDS], number: u64) -> (u64, u64) {
-    let mut out = [0; 1];
+    let mut out = [UNWRITTEN; 1];
     // SAFETY: as in `aplic_wire`, for each of the three that this is called with; `out` is a local, so
     // the two share no byte.
     let status = unsafe {
@@ -223,30 +224,32 @@ fn ask(asked: Asked, state: &mut [u64; DOMAIN_WORDS], number: u64) -> (u64, u64)
 /// A read of a register: its 32 bits.
 pub fn aplic_read(state: &mut [u64; DOMAIN_WORDS], offset: u64) -> u32 {
     let (status, value) = ask(c::yasmurekh_aplic_read, state, offset);
-    debug_assert_eq!(status, 0);
-    value as u32
+    answer::done(status);
+    answer::register(value)
 }
 
 /// A claim of a hart: the value of its claimi, or the refusal.
-pub fn aplic_claim(state: &mut [u64; DOMAIN_WORDS], hart: u64) -> Result<u64, Refusal> {
+pub fn aplic_claim(state: &mut [u64; DOMAIN_WORDS], hart: u64) -> Result<u32, Refusal> {
     let (status, value) = ask(c::yasmurekh_aplic_claim, state, hart);
-    answer::of_hart(status, value)
+    answer::of_hart(status)?;
+    Ok(answer::register(value))
 }
 
-/// Whether a hart is signalled, 1 or 0, or the refusal.
-pub fn aplic_signal(state: &mut [u64; DOMAIN_WORDS], hart: u64) -> Result<u64, Refusal> {
+/// Whether a hart is signalled, or the refusal.
+pub fn aplic_signal(state: &mut [u64; DOMAIN_WORDS], hart: u64) -> Result<bool, Refusal> {
     let (status, value) = ask(c::yasmurekh_aplic_signal, state, hart);
-    answer::of_hart(status, value)
+    answer::of_hart(status)?;
+    Ok(answer::bit(value))
 }
 
 /// A forward's words: 1 or 0, hart index, guest index, identity.
 pub fn aplic_forward(state: &mut [u64; DOMAIN_WORDS]) -> [u64; 4] {
-    let mut out = [0; 4];
+    let mut out = [UNWRITTEN; 4];
     // SAFETY: as in `ask`.
     let status = unsafe {
         c::yasmurekh_aplic_forward(state.as_mut_ptr(), state.len(), out.as_mut_ptr(), out.len())
     };
-    debug_assert_eq!(status, 0);
+    answer::done(status);
     out
 }
 

@@ -22,6 +22,9 @@
 //! messages of their signals, or signals harts itself: [`aplic::Domain`]. It has nothing to do with a
 //! window.
 //!
+//! A static library of another version than this crate isn't believed: a status or a word that this crate
+//! doesn't know ends the call in a panic. With the right one no call panics.
+//!
 //! # Example
 //!
 //! A device writes 37 to a page that its hypervisor has turned into an interrupt file. The window

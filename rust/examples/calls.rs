@@ -1,0 +1,37 @@
+//! Makes the call that is named on the command line, over one page of zeros or a new domain, and prints
+//! what it answers.
+
+use std::process::ExitCode;
+
+use yasmurekh::aplic::{register, Domain};
+use yasmurekh::{report, request, take, Mode, Request, Settings};
+
+fn main() -> ExitCode {
+    let mut window = [0; 4096];
+    let mut domain = Domain::new();
+    let call = std::env::args().nth(1).unwrap_or_default();
+    let answer = match call.as_str() {
+        "request" => {
+            let off = Settings {
+                start: 0,
+                mode: Mode::OFF,
+                root: 0,
+            };
+            request(&off, &mut window, &Request::read(0, 0x1000, 4)).to_string()
+        }
+        "take" => format!("{:?}", take(0, &mut window, 0, 37)),
+        "report" => format!("{:?}", report(0, &window, 0).map(|report| report.count)),
+        "wire" => format!("{:?}", domain.wire(7, true)),
+        "write" => format!("{:?}", domain.write(register::SETIENUM, 7)),
+        "read" => format!("{:?}", domain.read(register::setip(0))),
+        "forward" => format!("{:?}", domain.forward()),
+        "claim" => format!("{:?}", domain.claim(0)),
+        "signal" => format!("{:?}", domain.signalled(0)),
+        _ => {
+            eprintln!("usage: calls request|take|report|wire|write|read|forward|claim|signal");
+            return ExitCode::FAILURE;
+        }
+    };
+    println!("{answer}");
+    ExitCode::SUCCESS
+}

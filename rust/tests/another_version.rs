@@ -1,0 +1,118 @@
+//! An archive that isn't the one this crate is for: the example `calls`, built for release over a stub in
+//! the library's place, panics at every call that is answered by what this crate doesn't know.
+
+use std::env;
+use std::path::{Path, PathBuf};
+use std::process::{Command, Output};
+use std::sync::OnceLock;
+
+const MESSAGE: &str = "the static library is of another version than this crate";
+
+/// The calls, each with words by which the stub answers it rightly and what is printed then.
+fn calls() -> [(&'static str, Vec<&'static str>, &'static str); 9] {
+    let mut report = vec!["0"; 66];
+    (report[1], report[64]) = ("3", "7");
+    [
+        (
+            "request",
+            vec!["0", "4096", "0", "0", "0"],
+            "translated to 0x1000",
+        ),
+        ("take", vec!["6", "1", "0", "0", "0"], "Ok(true)"),
+        ("report", report, "Ok(3)"),
+        ("wire", vec![], "Ok(())"),
+        ("write", vec![], "()"),
+        ("read", vec!["7"], "7"),
+        ("forward", vec!["0"; 4], "None"),
+        ("claim", vec!["0"], "Ok(None)"),
+        ("signal", vec!["1"], "Ok(true)"),
+    ]
+}
+
+fn run(command: &mut Command) {
+    let output = command.output().expect("it runs");
+    let text = String::from_utf8_lossy(&output.stderr);
+    assert!(output.status.success(), "{command:?}: {text}");
+}
+
+/// The example, built once over the stub.
+fn program() -> &'static Path {
+    static PROGRAM: OnceLock<PathBuf> = OnceLock::new();
+    PROGRAM.get_or_init(|| {
+        let here = Path::new(env!("CARGO_MANIFEST_DIR"));
+        let folder = Path::new(env!("CARGO_TARGET_TMPDIR")).join("stub");
+        std::fs::create_dir_all(&folder).expect("a folder");
+        let object = folder.join("stub.o");
+        run(Command::new(env::var_os("CC").unwrap_or("gcc".into()))
+            .args(["-std=c99", "-Wall", "-Wextra", "-Werror", "-O2", "-c"])
+            .arg("-I")
+            .arg(here.join("../include"))
+            .arg(here.join("tests/stub.c"))
+            .arg("-o")
+            .arg(&object));
+        let archive = folder.join("libcapi.a");
+        run(Command::new("ar").arg("rcs").arg(&archive).arg(&object));
+        let target = folder.join("target");
+        run(Command::new(env::var_os("CARGO").unwrap_or("cargo".into()))
+            .args(["build", "--release", "--offline", "--quiet"])
+            .args(["--example", "calls", "--manifest-path"])
+            .arg(here.join("Cargo.toml"))
+            .env("YASMUREKH_LIB_DIR", &folder)
+            .env("CARGO_TARGET_DIR", &target));
+        target.join("release/examples/calls")
+    })
+}
+
+/// A call, answered by the stub with a status and words.
+fn call(name: &str, status: u64, words: &[&str]) -> Output {
+    Command::new(program())
+        .arg(name)
+        .env("STUB_STATUS", status.to_string())
+        .env("STUB_WORDS", words.join(" "))
+        .env("RUST_BACKTRACE", "0")
+        .output()
+        .expect("it runs")
+}
+
+/// Sees that a call ends in the panic that names another version, and hands nothing out.
+fn panics(name: &str, status: u64, words: &[&str]) {
+    let output = call(name, status, words);
+    let text = String::from_utf8_lossy(&output.stderr);
+    let case = format!("{name}, status {status}, words {words:?}: {output:?}");
+    assert_eq!(output.status.code(), Some(101), "{case}");
+    assert!(text.contains(MESSAGE), "{case}");
+    assert!(output.stdout.is_empty(), "{case}");
+}
+
+#[test]
+fn what_the_crate_knows_is_answered() {
+    for (name, words, printed) in calls() {
+        let output = call(name, 0, &words);
+        assert_eq!(output.status.code(), Some(0), "{name}: {output:?}");
+        assert_eq!(String::from_utf8_lossy(&output.stdout).trim_end(), printed);
+    }
+}
+
+#[test]
+fn an_unknown_status_panics() {
+    for (name, words, _) in calls() {
+        // A buffer that is too short, a status of another version, a refusal of another call.
+        for status in [1, 2, 77, 2001, u64::MAX] {
+            panics(name, status, &words);
+            panics(name, status, &[]);
+            panics(name, status, &["0"; 5]);
+        }
+    }
+}
+
+#[test]
+fn unwritten_words_panic() {
+    for (name, words, _) in calls() {
+        for written in 0..words.len() {
+            // Enable bits may be anything: only the last one of a report is left out.
+            if written != 65 {
+                panics(name, 0, &words[..written]);
+            }
+        }
+    }
+}
