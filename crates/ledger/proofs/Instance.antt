@@ -12,7 +12,7 @@ use Rattle.directory_process.specs.declared.ProcessId.the-variants.{Absent}
 use Rattle.paging_scheme.specs.Scheme.{legalOf, indexOf}
 use Rattle.paging_entry.specs.Entry.{entryOf, allows, mappedBy}
 use Rattle.paging_entry.specs.Entry.{onLoad}
-use Rattle.paging.specs.Levels.{levelOf, levels, walkOf}
+use Rattle.paging.specs.Levels.{levelStep, levels, walkOf}
 use Rattle.paging.specs.Stages.{secondStageOf, firstStageOf}
 use Rattle.directory_entry.specs.Entries.{pointerOf, tooWide}
 use Rattle.directory_walk.specs.Pointers.{leafPlace}
@@ -93,7 +93,7 @@ pub computed :
     × (accountAfter start bytes ops 0x40000200 0 ≡ account 1 1 0 0)
     × (accountAfter start bytes ops 0x40000000 0 ≡ account 0 0 0 1)
     × (accountAfter start bytes early 0x40000200 37 ≡ account 1 2 1 0)
-unfolding onesIn ones memory legalOf indexOf entryOf allows mappedBy onLoad levelOf levels walkOf secondStageOf firstStageOf pointerOf leafPlace tooWide deviceMisconfigured deviceContextAt deviceContextOf processMisconfigured processContextAt processContextOf processTable firstTableOf recognised packed extract translateReserved recordReserved onNotice onTranslate onMessageEntry messageOf bitAt withBit withoutBit isFile pendingOf afterStore afterTake badWindow requestRefusal takeRefusal untranslated isMessage guestOf stagesOf directoryOf translateOf storableAs finish requestOf afterRequest takeOf afterTakeOf history bytesAfter enteredAll accountOf start bytes early later ops
+unfolding onesIn ones memory legalOf indexOf entryOf allows mappedBy onLoad levelStep levels walkOf secondStageOf firstStageOf pointerOf leafPlace tooWide deviceMisconfigured deviceContextAt deviceContextOf processMisconfigured processContextAt processContextOf processTable firstTableOf recognised packed extract translateReserved recordReserved onNotice onTranslate onMessageEntry messageOf bitAt withBit withoutBit isFile pendingOf afterStore afterTake badWindow requestRefusal takeRefusal untranslated isMessage guestOf stagesOf directoryOf translateOf storableAs finish requestOf afterRequest takeOf afterTakeOf history bytesAfter enteredAll accountOf start bytes early later ops
 computed = (refl, refl, refl, refl, refl)
 
 -- the theorem of this list, with each kind of premise met

@@ -32,7 +32,7 @@ use Rattle.paging_entry.specs.Entry.{faulted, onLoad}
 use Rattle.paging_entry.specs.Code.{testOf, rawLoad, toStep, toldOf, faultyEnd, unreadEnd, codeOf, toldBy, Tight}
 use Rattle.paging_entry.proofs.EntryLaws.{tested, coded}
 use Rattle.paging.specs.declared.PageTable.{PageTable}
-use Rattle.paging.specs.Levels.{onPlace, onStep, entryAt, levelOf, levels, walkOf}
+use Rattle.paging.specs.Levels.{onPlace, onStep, entryAt, levelStep, levels, walkOf}
 use Rattle.paging.specs.Stages.{direct, guestLookup, secondStageOf, entryPlace, deviceLookup, firstStageOf}
 use Rattle.paging.specs.Code.{onRaw, rawLevels, rawWalk, Near, Within, Small}
 use Rattle.paging.proofs.LevelsLaws.{raw-whole}
@@ -187,14 +187,14 @@ pub ruleset second-ways = (second-bare, second-walks, told-within, bare-within)
 -- a level, whose entry's index is i and whose entry lies at t
 module _ (m : ℕ → Load) (s : Scheme) (q : Lookup) (locate : ℕ → Walk Translation) (n table i : ℕ) (t : Translation)
     (hi : i ≡ indexOf s (q .address) n) (ht : t ≡ run m (locate (table * 4096 + 8 * i))) where
-  placed : (x : Step) → x ≡ run m (onPlace q n t) → x ≡ run m (levelOf s q locate n table)
-  unfolding levelOf
+  placed : (x : Step) → x ≡ run m (onPlace q n t) → x ≡ run m (levelStep s q locate n table)
+  unfolding levelStep
   placed x e = then m (locate (entryAt s q n table)) (onPlace q n) (ht ∙ ap (λ (j : ℕ). run m (locate (table * 4096 + 8 * j))) hi) e
 
-  stops : (f : FaultInfo) → t ≡ Fault f → Stop t ≡ run m (levelOf s q locate n table)
+  stops : (f : FaultInfo) → t ≡ Fault f → Stop t ≡ run m (levelStep s q locate n table)
   stops f e = placed (Stop t) (at m (onPlace q n) e (ap Stop e))
 
-  loaded : (p : ℕ) (v : Load) (x : Step) → t ≡ To p → v ≡ m p → x ≡ onLoad q n v → x ≡ run m (levelOf s q locate n table)
+  loaded : (p : ℕ) (v : Load) (x : Step) → t ≡ To p → v ≡ m p → x ≡ onLoad q n v → x ≡ run m (levelStep s q locate n table)
   loaded p v x e h k = placed x (at m (onPlace q n) e (loads m p (λ w. done (onLoad q n w)) h k))
 
 told-stop : (p : Purpose) (x : Access) (r : ℕ) → faultyEnd ≤ r → (f : FaultInfo) × (toldBy p x r ≡ Fault f)
@@ -210,13 +210,13 @@ module _ (m : ℕ → Load) (s : Scheme) (q : Lookup) (g : PageTable) (n table i
   found : (t : Translation) → t ≡ toldBy FirstStageEntry (q .access) place → t ≡ run m (entryPlace g q (table * 4096 + 8 * i))
   found t e = second-walks m g FirstStageEntry (q .access) there t Read l place w h refl hl hw hT hp e ∙ ap (λ (j : ℕ). run m (entryPlace g q j)) hd
 
-  pub level-stops : (t : Translation) → faultyEnd ≤ place → t ≡ toldBy FirstStageEntry (q .access) place → Stop t ≡ run m (levelOf s q (entryPlace g q) n table)
+  pub level-stops : (t : Translation) → faultyEnd ≤ place → t ≡ toldBy FirstStageEntry (q .access) place → Stop t ≡ run m (levelStep s q (entryPlace g q) n table)
   level-stops t far e =
       let f = told-stop FirstStageEntry (q .access) place far in
       stops m s q (entryPlace g q) n table i t hi (found t e) (f .0) (e ∙ f .1)
 
   pub level-steps : (v : Load) (t : LeafTest) (r : Raw) (x : Step) → place < faultyEnd → v ≡ m place
-      → t ≡ testOf (askedOf (q .purpose) (q .access)) (q .pages) → r ≡ rawLoad t (q .address) n v → x ≡ toStep (q .purpose) (q .access) r → x ≡ run m (levelOf s q (entryPlace g q) n table)
+      → t ≡ testOf (askedOf (q .purpose) (q .access)) (q .pages) → r ≡ rawLoad t (q .address) n v → x ≡ toStep (q .purpose) (q .access) r → x ≡ run m (levelStep s q (entryPlace g q) n table)
   level-steps v t r x near hv ht hr hx =
       loaded m s q (entryPlace g q) n table i (To place) hi (found (To place) (simp (lt-ltb place faultyEnd near))) place v x refl hv
       (hx ∙ ap (toStep (q .purpose) (q .access)) (hr ∙ ap (λ (y : LeafTest). rawLoad y (q .address) n v) ht) ∙ tested q n v)
@@ -237,11 +237,11 @@ pub ruleset level-ways = (level-stops, level-steps, stop-small, step-small)
 
 -- a turn over levels: `left` are left before it, and w is the answer of the whole walk
 module _ (m : ℕ → Load) (s : Scheme) (q : Lookup) (locate : ℕ → Walk Translation) (left table : ℕ) (t : Step) (w : Translation)
-    (p : 0 < left) (ht : t ≡ run m (levelOf s q locate (left - 1) table)) (hw : run m (levels s q locate left table) ≡ w) where
+    (p : 0 < left) (ht : t ≡ run m (levelStep s q locate (left - 1) table)) (hw : run m (levels s q locate left table) ≡ w) where
   stepped-on : {x : Translation} → x ≡ run m (onStep (levels s q locate (left - 1)) t) → x ≡ w
   unfolding levels
   stepped-on e =
-      then m (levelOf s q locate (left - 1) table) (onStep (levels s q locate (left - 1))) ht e
+      then m (levelStep s q locate (left - 1) table) (onStep (levels s q locate (left - 1))) ht e
       ∙ ap (λ (k : ℕ). run m (levels s q locate k table)) (one-less left p)
       ∙ hw
 

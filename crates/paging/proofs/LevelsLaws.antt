@@ -27,7 +27,7 @@ use Rattle.paging_scheme.specs.Scheme.{levelsOf, pageBitsOf, legalOf}
 use Rattle.paging_entry.specs.Purpose.{askedOf}
 use Rattle.paging_entry.specs.Entry.{entryPage, kindOf, entryOf, permits, ownedBy, allows, mappedBy}
 use Rattle.paging_entry.specs.Entry.{faulted, onEntry, onLoad}
-use Rattle.paging.specs.Levels.{onStep, entryAt, levelOf, levels, walkOf}
+use Rattle.paging.specs.Levels.{onStep, entryAt, levelStep, levels, walkOf}
 use Rattle.paging.specs.Stages.{direct}
 use Rattle.paging_entry.proofs.EntryLaws.{tested}
 use Rattle.paging_entry.specs.Code.{testOf, tableBits, rawLoad, toStep, toldOf, faultyEnd, codeOf, toldBy, Tight}
@@ -46,7 +46,7 @@ module _ (m : ℕ → Load) (s : Scheme) (q : Lookup) where
   raw-turn n h Unread = refl
 
   pub raw-walk : (n table : ℕ) → toldOf (q .purpose) (q .access) (run m (raws n table)) ≡ run m (levels s q direct n table)
-  unfolding rawLevels levels levelOf
+  unfolding rawLevels levels levelStep
   raw-walk zero table = refl
   raw-walk (suc n) table =
       raw-turn n (raw-walk n) (rawLoad (testOf (askedOf (q .purpose) (q .access)) (q .pages)) (q .address) n (m (entryAt s q n table)))

@@ -23,7 +23,7 @@ use Rattle.paging_entry.specs.declared.Step.the-variants.{Stop, Next}
 use Rattle.paging_scheme.specs.Scheme.{levelsOf, legalOf}
 use Rattle.paging_entry.specs.Entry.{entryOf, permits, allows, mappedBy}
 use Rattle.paging_entry.specs.Entry.{faulted, onEntry, onLoad}
-use Rattle.paging.specs.Levels.{onPlace, onStep, entryAt, levelOf, levels, walkOf}
+use Rattle.paging.specs.Levels.{onPlace, onStep, entryAt, levelStep, levels, walkOf}
 use Rattle.paging.specs.Stages.{entryPlace, deviceLookup, firstStageOf}
 
 -- a is b, or a is one answer, `barred`, in whose place b stands
@@ -72,8 +72,8 @@ module _ (m : ℕ → Load) (x : Access) (a : ℕ) where
   place-opens n (To p) = load-opens n (m p)
 
   module _ (s : Scheme) (locate : ℕ → Walk Translation) where
-    level-opens : (n table : ℕ) → Opens (Stop (faulted own)) (run m (levelOf s own locate n table)) (run m (levelOf s all locate n table))
-    unfolding levelOf
+    level-opens : (n table : ℕ) → Opens (Stop (faulted own)) (run m (levelStep s own locate n table)) (run m (levelStep s all locate n table))
+    unfolding levelStep
     level-opens n table =
         opens-by (run-bind m (locate (entryAt s own n table)) (onPlace own n)) (run-bind m (locate (entryAt s all n table)) (onPlace all n))
         (place-opens n (run m (locate (entryAt s own n table))))
@@ -92,8 +92,8 @@ module _ (m : ℕ → Load) (x : Access) (a : ℕ) where
     unfolding levels
     levels-open zero table = same refl
     levels-open (suc n) table =
-        opens-by (run-bind m (levelOf s own locate n table) (onStep (levels s own locate n))) (run-bind m (levelOf s all locate n table) (onStep (levels s all locate n)))
-        (turn-opens n (levels-open n) (run m (levelOf s own locate n table)) (run m (levelOf s all locate n table)) (level-opens n table))
+        opens-by (run-bind m (levelStep s own locate n table) (onStep (levels s own locate n))) (run-bind m (levelStep s all locate n table) (onStep (levels s all locate n)))
+        (turn-opens n (levels-open n) (run m (levelStep s own locate n table)) (run m (levelStep s all locate n table)) (level-opens n table))
 
   -- the first stage under SUM, where it opens user pages, and without it
   pub first-opens : (f g : PageTable) → Opens (faulted own) (run m (firstStageOf f g x Supervisor a)) (run m (firstStageOf f g x Any a))

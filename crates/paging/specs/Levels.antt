@@ -26,13 +26,13 @@ onStep next (Next table) = next table
 
 -- `locate` leads from the address of an entry to where it lies in memory
 module _ (s : Scheme) (q : Lookup) (locate : ℕ → Walk Translation) where
-  unfoldable pub levelOf : ℕ → ℕ → Walk Step
-  levelOf n table = bind (locate (entryAt s q n table)) (onPlace q n)
+  unfoldable pub levelStep : ℕ → ℕ → Walk Step
+  levelStep n table = bind (locate (entryAt s q n table)) (onPlace q n)
 
   -- with this many levels left, from the table at a page; "a non-leaf at the last level" faults
   unfoldable pub levels : ℕ → ℕ → Walk Translation
   levels zero table = done (faulted q)
-  levels (suc n) table = bind (levelOf n table) (onStep (levels n))
+  levels (suc n) table = bind (levelStep n table) (onStep (levels n))
 
   -- the address is looked at before any load (D22)
   unfoldable pub walkOf : ℕ → Walk Translation

@@ -18,7 +18,7 @@ ghost use Rattle.paging_scheme.specs.Scheme.{levelsOf, signedOf, legalOf, pageB
 ghost use Rattle.paging_entry.specs.Purpose.{askedOf};
 ghost use Rattle.paging_entry.specs.Entry.{faulted as faultedOf};
 ghost use Rattle.paging_entry.specs.Code.{testOf, codeOf, Tight};
-ghost use Rattle.paging.specs.Levels.{levelOf, levels as levelsFrom};
+ghost use Rattle.paging.specs.Levels.{levelStep, levels as levelsFrom};
 ghost use Rattle.paging.specs.Stages.{secondStageOf, entryPlace, firstStageOf};
 ghost use Rattle.paging.specs.Code.{rawWalk, Within, Small};
 
@@ -134,7 +134,7 @@ fn guest_level(
     table: u64,
 ) -> Step
     requires { ⌜ (n < 5) × (table < 2 ^ 44) × (g .on ≡ true) × (g .root < 2 ^ 44) × (signedOf (g .scheme) ≡ false) × (t ≡ testOf (askedOf (q .purpose) (q .access)) (q .pages)) ⌝ }
-    ensures { λ r. ⌜ (r ≡ run (memory start (now (window .entry))) (levelOf s q (entryPlace g q) n table)) × Small r ⌝ }
+    ensures { λ r. ⌜ (r ≡ run (memory start (now (window .entry))) (levelStep s q (entryPlace g q) n table)) × Small r ⌝ }
 {
     let x = q.access;
     let at = entry_at(table, s.index(q.address, n));

@@ -5,7 +5,7 @@ use Rattle.memory.specs.Window.{memory}
 use Rattle.paging_scheme.specs.Scheme.{legalOf, indexOf}
 use Rattle.paging_entry.specs.Entry.{entryOf, allows, mappedBy}
 use Rattle.paging_entry.specs.Entry.{onLoad}
-use Rattle.paging.specs.Levels.{levelOf, levels, walkOf}
+use Rattle.paging.specs.Levels.{levelStep, levels, walkOf}
 use Rattle.paging.specs.Stages.{secondStageOf, firstStageOf}
 use Rattle.directory_entry.specs.Entries.{pointerOf, tooWide}
 use Rattle.directory_walk.specs.Pointers.{leafPlace}
@@ -27,7 +27,7 @@ use Rattle.worked_cases.specs.Table.{table}
 use Rattle.worked_cases.specs.Limits.{limits}
 
 pub cases : Agrees table
-unfolding onesIn ones memory legalOf indexOf entryOf allows mappedBy onLoad levelOf levels walkOf secondStageOf firstStageOf pointerOf leafPlace tooWide deviceMisconfigured deviceContextAt deviceContextOf processMisconfigured processContextAt processContextOf processTable firstTableOf recognised packed extract translateReserved recordReserved onNotice onTranslate onMessageEntry messageOf bitAt withBit withoutBit isFile pendingOf afterStore afterTake badWindow requestRefusal untranslated isMessage guestOf stagesOf directoryOf translateOf storableAs finish requestOf afterRequest window inMode table
+unfolding onesIn ones memory legalOf indexOf entryOf allows mappedBy onLoad levelStep levels walkOf secondStageOf firstStageOf pointerOf leafPlace tooWide deviceMisconfigured deviceContextAt deviceContextOf processMisconfigured processContextAt processContextOf processTable firstTableOf recognised packed extract translateReserved recordReserved onNotice onTranslate onMessageEntry messageOf bitAt withBit withoutBit isFile pendingOf afterStore afterTake badWindow requestRefusal untranslated isMessage guestOf stagesOf directoryOf translateOf storableAs finish requestOf afterRequest window inMode table
 cases = (refl, (refl, (refl, (refl, (refl, (refl, (refl, (refl, (refl, (refl, (refl, (refl, (refl, (refl, tt))))))))))))))
 
 pub limits-hold : Agrees limits

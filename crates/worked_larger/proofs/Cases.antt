@@ -12,7 +12,7 @@ use Rattle.paging_scheme.specs.declared.Scheme.the-variants.{Sv39, Sv48, Sv57, 
 use Rattle.paging_scheme.proofs.SchemeLaws.{legal-range}
 use Rattle.paging_entry.specs.Entry.{entryOf, allows, mappedBy}
 use Rattle.paging_entry.specs.Entry.{onLoad}
-use Rattle.paging.specs.Levels.{levelOf, levels, walkOf}
+use Rattle.paging.specs.Levels.{levelStep, levels, walkOf}
 use Rattle.paging.specs.Stages.{secondStageOf, firstStageOf}
 use Rattle.directory_entry.specs.Entries.{pointerOf, tooWide}
 use Rattle.directory_walk.specs.Pointers.{leafPlace}
@@ -50,5 +50,5 @@ pub legal-everywhere : (s : Scheme) (a : ℕ) → a < 2 ^ 64
 legal-everywhere s a l = legal-range s a (width-fits s .0) (width-fits s .1) l
 
 pub larger-hold : Agrees larger
-unfolding memory legalOf indexOf entryOf allows mappedBy onLoad levelOf levels walkOf secondStageOf firstStageOf pointerOf leafPlace tooWide deviceMisconfigured deviceContextAt deviceContextOf processMisconfigured processContextAt processContextOf processTable firstTableOf recognised packed extract badWindow requestRefusal untranslated isMessage guestOf stagesOf directoryOf translateOf finish requestOf tables larger
+unfolding memory legalOf indexOf entryOf allows mappedBy onLoad levelStep levels walkOf secondStageOf firstStageOf pointerOf leafPlace tooWide deviceMisconfigured deviceContextAt deviceContextOf processMisconfigured processContextAt processContextOf processTable firstTableOf recognised packed extract badWindow requestRefusal untranslated isMessage guestOf stagesOf directoryOf translateOf finish requestOf tables larger
 larger-hold = (refl, (refl, (refl, (refl, (refl, (refl, (refl, (refl, (refl, (refl, (refl, (refl, (refl, (refl, (refl, (refl, (refl, (refl, (refl, (refl, (refl, (refl, (refl, (refl, (refl, (refl, (refl, (refl, (refl, (refl, (refl, tt)))))))))))))))))))))))))))))))

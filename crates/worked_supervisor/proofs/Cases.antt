@@ -4,7 +4,7 @@ use Rattle.memory.specs.Window.{memory}
 use Rattle.paging_scheme.specs.Scheme.{legalOf, indexOf}
 use Rattle.paging_entry.specs.Entry.{entryOf, allows, mappedBy}
 use Rattle.paging_entry.specs.Entry.{onLoad}
-use Rattle.paging.specs.Levels.{levelOf, levels, walkOf}
+use Rattle.paging.specs.Levels.{levelStep, levels, walkOf}
 use Rattle.paging.specs.Stages.{secondStageOf, firstStageOf}
 use Rattle.directory_entry.specs.Entries.{pointerOf, tooWide}
 use Rattle.directory_walk.specs.Pointers.{leafPlace}
@@ -20,5 +20,5 @@ use Rattle.worked_rows.specs.Rows.{Agrees}
 use Rattle.worked_supervisor.specs.Supervisor.{bytes, supervisors}
 
 pub supervisors-hold : Agrees supervisors
-unfolding memory legalOf indexOf entryOf allows mappedBy onLoad levelOf levels walkOf secondStageOf firstStageOf pointerOf leafPlace tooWide deviceMisconfigured deviceContextAt deviceContextOf processMisconfigured processContextAt processContextOf processTable firstTableOf badWindow requestRefusal untranslated isMessage guestOf stagesOf directoryOf translateOf finish requestOf inMode bytes supervisors
+unfolding memory legalOf indexOf entryOf allows mappedBy onLoad levelStep levels walkOf secondStageOf firstStageOf pointerOf leafPlace tooWide deviceMisconfigured deviceContextAt deviceContextOf processMisconfigured processContextAt processContextOf processTable firstTableOf badWindow requestRefusal untranslated isMessage guestOf stagesOf directoryOf translateOf finish requestOf inMode bytes supervisors
 supervisors-hold = (refl, (refl, (refl, (refl, (refl, (refl, (refl, (refl, (refl, (refl, (refl, (refl, (refl, (refl, (refl, (refl, (refl, (refl, (refl, (refl, (refl, (refl, (refl, (refl, tt))))))))))))))))))))))))
