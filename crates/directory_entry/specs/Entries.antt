@@ -16,7 +16,7 @@ use Rattle.paging_entry.specs.declared.Translation.the-variants.{To, Fault}
 use Rattle.directory_entry.specs.declared.Tree.{Tree}
 use Rattle.directory_entry.specs.declared.Tree.the-variants.{Device, Process}
 
--- "Load violation 257, V = 0 258, reserved bit set 259"; "Process pointer-ways: load 265, not valid 266, misconfigured 267"
+-- "Load violation 257, V = 0 258, reserved bit set 259"; "Process entries: load 265, not valid 266, misconfigured 267"
 abbrev pub loadFault : Tree → FaultInfo
 loadFault Device = faultAt Directory 257
 loadFault Process = faultAt ProcessDirectory 265
