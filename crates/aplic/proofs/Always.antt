@@ -8,7 +8,7 @@ use borrow.Author.Tests.{eqb-false}
 use lib.Dec.{eqb, ltb}
 use Rattle.memory.specs.Bits.{bits}
 use Rattle.memory.specs.Choice.{pick}
-use Rattle.word.specs.Word.{inside, only}
+use Rattle.word.specs.Word.{isSource, only}
 use Rattle.word.proofs.Bits.{never}
 use Rattle.register.specs.declared.BitRegister.{BitRegister}
 use Rattle.register.specs.declared.BitRegister.the-variants.{SetIp, SetIpNum, InClrIp, ClrIpNum, SetIe, SetIeNum, ClrIe, ClrIeNum}
@@ -23,9 +23,9 @@ use Rattle.source.specs.declared.Delivery.the-variants.{Direct, Message}
 use Rattle.source.specs.declared.Mode.{Mode}
 use Rattle.source.specs.declared.Mode.the-variants.{Inactive, Detached, Edge1, Edge0, Level1, Level0}
 use Rattle.source.specs.declared.Source.{Source}
-use Rattle.source.specs.Source.{modeOf, activeOf, rectified, Event, input, setip, clrip, delivered, pendingAfter, rises, befalls, sensed, raised, lowered, handed, allowed, configured, configuredPending, configuredTarget, firstTarget, aimed, targetOf}
+use Rattle.source.specs.Source.{modeOf, activeOf, rectified, Event, input, setip, clrip, delivered, newPending, rises, befalls, sensed, raised, lowered, handed, allowed, configured, configuredPending, configuredTarget, firstTarget, aimed, targetOf}
 use Rattle.source.specs.Table.{Table, startOf, act}
-use Rattle.aplic.specs.Direct.{reaches, withHart, topi, claimTable, claimHart, claimed, writeHart, writeIdc, claimedBy}
+use Rattle.aplic.specs.Direct.{serves, withHart, topi, claimTable, claimHart, claimed, writeHart, writeIdc, claimedBy}
 use Rattle.aplic.specs.Calls.{wireTable, concerned, change, enabledBy, writeRegister, writeTable, afterRead, forwardTable, sends, topOf}
 use Rattle.aplic.specs.Run.{Call, wire, write, read, forward, claim, signal, after, afterAll}
 use Rattle.aplic.specs.Always.{LevelSound, PrioritySound, SoundAs, Sound}
@@ -41,22 +41,22 @@ last true = refl
 last false = refl
 
 -- ---- a level-sensitive source, by the values of its input
-level-sensed : (d : Delivery) (was now p : Bool) → LevelSound d now (pendingAfter d Level1 (input was now) p)
+level-sensed : (d : Delivery) (was now p : Bool) → LevelSound d now (newPending d Level1 (input was now) p)
 level-sensed Direct was true p = refl
 level-sensed Direct was false p = refl
 level-sensed Message was true p = last (rises was true || p)
 level-sensed Message was false p = refl
 
-level-raised : (d : Delivery) (i p : Bool) → LevelSound d i p → LevelSound d i (pendingAfter d Level1 (setip i) p)
+level-raised : (d : Delivery) (i p : Bool) → LevelSound d i p → LevelSound d i (newPending d Level1 (setip i) p)
 level-raised Direct i p h = h
 level-raised Message true p h = refl
 level-raised Message false p h = h
 
-level-lowered : (d : Delivery) (i p : Bool) → LevelSound d i p → LevelSound d i (pendingAfter d Level1 clrip p)
+level-lowered : (d : Delivery) (i p : Bool) → LevelSound d i p → LevelSound d i (newPending d Level1 clrip p)
 level-lowered Direct i p h = h
 level-lowered Message i p h = refl
 
-level-handed : (d : Delivery) (i p : Bool) → LevelSound d i p → LevelSound d i (pendingAfter d Level1 delivered p)
+level-handed : (d : Delivery) (i p : Bool) → LevelSound d i p → LevelSound d i (newPending d Level1 delivered p)
 level-handed Direct i p h = h
 level-handed Message i p h = refl
 
@@ -102,7 +102,7 @@ module _ (d : Delivery) where
   sensed-at now Level0 w p e t h = (level-sensed d (not w) (not now) p, h .1)
 
   -- an event e that keeps a level-sensitive source sound keeps every source so
-  befalls-at : (e : Bool → Event) → ((i p : Bool) → LevelSound d i p → LevelSound d i (pendingAfter d Level1 (e i) p)) → (m : Mode) (w p en : Bool) (t : ℕ) → Fine d (mk m w p en t)
+  befalls-at : (e : Bool → Event) → ((i p : Bool) → LevelSound d i p → LevelSound d i (newPending d Level1 (e i) p)) → (m : Mode) (w p en : Bool) (t : ℕ) → Fine d (mk m w p en t)
       → Fine d (befalls d (e (rectified m w)) (mk m w p en t))
   befalls-at e keep Inactive w p en t h = h
   befalls-at e keep Detached w p en t h = h
@@ -174,7 +174,7 @@ keeps-change d (ClrIe high) s h = allowed-at d false (s .mode) (s .wire) (s .pen
 keeps-change d ClrIeNum s h = allowed-at d false (s .mode) (s .wire) (s .pending) (s .enable) (s .target) h
 
 acts : (sel : ℕ → Bool) (f : Source → Source) (t : Table) → Keeps (t .delivery) f → Sound t → Sound (act sel f t)
-acts sel f t keep h i = go (inside i && sel i)
+acts sel f t keep h i = go (isSource i && sel i)
   where
     go : (b : Bool) → Fine (t .delivery) (pick b (f (t .row i)) (t .row i))
     go true = keep (t .row i) (h i)
@@ -190,7 +190,7 @@ written Nothing v t h = h
 
 idc-written : (g : Idc) (v : ℕ) (t : Table) → Sound t → Sound (writeIdc g v t)
 unfolding writeIdc writeHart withHart
-idc-written (OfHart n k) v t h = go (reaches n t)
+idc-written (OfHart n k) v t h = go (serves n t)
   where
     go : (b : Bool) → Sound (pick b (withHart n (wroteOf k v (t .hart n)) t) t)
     go true = h
@@ -204,7 +204,7 @@ by-span false x y p q = q
 
 claim-kept : (n : ℕ) (t : Table) → Sound t → Sound (claimed n t)
 unfolding claimed withHart claimTable
-claim-kept n t h = go (reaches n t) (eqb (topi n (t .hart n .threshold) t) 0)
+claim-kept n t h = go (serves n t) (eqb (topi n (t .hart n .threshold) t) 0)
   where
     go : (b c : Bool)
         → Sound (pick b (withHart n (claimHart n (t .hart n) t) (pick c t (act (only (bits (topi n (t .hart n .threshold) t) 25 16)) (handed (t .delivery)) t))) t)
@@ -254,13 +254,13 @@ register-mode Nothing v t = refl
 
 idc-mode : (g : Idc) (v : ℕ) (t : Table) → writeIdc g v t .delivery ≡ t .delivery
 unfolding writeIdc writeHart withHart
-idc-mode (OfHart n k) v t = span-mode (reaches n t) _ _ _ refl refl
+idc-mode (OfHart n k) v t = span-mode (serves n t) _ _ _ refl refl
 idc-mode (ClaimI n) v t = refl
 idc-mode Reserved v t = refl
 
 claim-mode : (n : ℕ) (t : Table) → claimed n t .delivery ≡ t .delivery
 unfolding claimed withHart claimTable
-claim-mode n t = span-mode (reaches n t) _ _ _ (span-mode (eqb (topi n (t .hart n .threshold) t) 0) _ _ _ refl refl) refl
+claim-mode n t = span-mode (serves n t) _ _ _ (span-mode (eqb (topi n (t .hart n .threshold) t) 0) _ _ _ refl refl) refl
 
 read-mode : (g : Idc) (t : Table) → claimedBy g t .delivery ≡ t .delivery
 unfolding claimedBy

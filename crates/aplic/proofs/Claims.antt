@@ -18,7 +18,7 @@ use Rattle.hart.specs.declared.Hart.{Hart}
 use Rattle.hart.specs.Hart.{wroteOf, unforced, hartRefusal}
 use Rattle.source.specs.Source.{directOf, handed}
 use Rattle.source.specs.Table.{Table, act}
-use Rattle.aplic.specs.Direct.{reaches, withHart, topAt, topi, claimTable, claimHart, claimed, claimValue, writeHart, readHart, writeIdc, readIdc, claimedBy, signalled, tells}
+use Rattle.aplic.specs.Direct.{serves, withHart, topAt, topi, claimTable, claimHart, claimed, claimValue, writeHart, readHart, writeIdc, readIdc, claimedBy, signalled, tells}
 
 pub below-of : (h r : ℕ) → r ≡ hartRefusal h → r ≡ 0 → h < 16
 unfolding hartRefusal
@@ -38,78 +38,78 @@ with-own t h = ap (λ (f : ℕ → Hart). record { delivery = t .delivery; enabl
     go k false e = refl
 
 module _ (t : Table) (h : ℕ) where
-  -- ---- which hart is reached
-  pub reach-yes : (b : Bool) → h < 16 → b ≡ directOf (t .delivery) → b ≡ true → reaches h t ≡ true
-  unfolding reaches
-  reach-yes b l hb e = rw (lt-ltb h 16 l, sym hb ∙ e)
+  -- ---- which hart is served
+  pub serve-yes : (b : Bool) → h < 16 → b ≡ directOf (t .delivery) → b ≡ true → serves h t ≡ true
+  unfolding serves
+  serve-yes b l hb e = rw (lt-ltb h 16 l, sym hb ∙ e)
 
-  pub reach-mode : (b : Bool) → b ≡ directOf (t .delivery) → b ≡ false → reaches h t ≡ false
-  unfolding reaches
-  reach-mode b hb e = rw (sym hb ∙ e) (go (ltb h 16))
+  pub serve-mode : (b : Bool) → b ≡ directOf (t .delivery) → b ≡ false → serves h t ≡ false
+  unfolding serves
+  serve-mode b hb e = rw (sym hb ∙ e) (go (ltb h 16))
     where
       go : (x : Bool) → x && false ≡ false
       go true = refl
       go false = refl
 
-  pub reach-refused : (r : ℕ) → r ≡ hartRefusal h → (r ≡ 0 → ⊥) → reaches h t ≡ false
-  unfolding reaches hartRefusal
-  reach-refused r e z = go (ltb h 16) e
+  pub serve-refused : (r : ℕ) → r ≡ hartRefusal h → (r ≡ 0 → ⊥) → serves h t ≡ false
+  unfolding serves hartRefusal
+  serve-refused r e z = go (ltb h 16) e
     where
       go : (b : Bool) → r ≡ pick b 0 2014 → b && directOf (t .delivery) ≡ false
       go true p = absurd (z p)
       go false p = refl
 
-  -- ---- a hart that isn't reached
-  module _ (no : reaches h t ≡ false) where
-    pub unreached-topi : (th : ℕ) → 0 ≡ topi h th t
+  -- ---- a hart that isn't served
+  module _ (no : serves h t ≡ false) where
+    pub unserved-topi : (th : ℕ) → 0 ≡ topi h th t
     unfolding topi
-    unreached-topi th = no-is _ _ _ _ no refl
+    unserved-topi th = no-is _ _ _ _ no refl
 
-    pub unreached-table : (th : ℕ) → t ≡ claimTable h th t
+    pub unserved-table : (th : ℕ) → t ≡ claimTable h th t
     unfolding claimTable
-    unreached-table th = yes-is _ _ _ _ (eq-eqb _ _ (sym (unreached-topi th))) refl
+    unserved-table th = yes-is _ _ _ _ (eq-eqb _ _ (sym (unserved-topi th))) refl
 
-    pub unreached-hart : (x : Hart) → x ≡ claimHart h x t
+    pub unserved-hart : (x : Hart) → x ≡ claimHart h x t
     unfolding claimHart
-    unreached-hart x = no-is _ _ _ _ no refl
+    unserved-hart x = no-is _ _ _ _ no refl
 
-    pub unreached-claim : t ≡ claimed h t
+    pub unserved-claim : t ≡ claimed h t
     unfolding claimed
-    unreached-claim = no-is _ _ _ _ no refl
+    unserved-claim = no-is _ _ _ _ no refl
 
-    pub unreached-value : 0 ≡ claimValue h t
+    pub unserved-value : 0 ≡ claimValue h t
     unfolding claimValue
-    unreached-value = unreached-topi (t .hart h .threshold)
+    unserved-value = unserved-topi (t .hart h .threshold)
 
-    pub unreached-write : (k : HartRegister) (v : ℕ) → t ≡ writeHart h k v t
+    pub unserved-write : (k : HartRegister) (v : ℕ) → t ≡ writeHart h k v t
     unfolding writeHart
-    unreached-write k v = no-is _ _ _ _ no refl
+    unserved-write k v = no-is _ _ _ _ no refl
 
-    pub unreached-read : (k : HartRegister) → 0 ≡ readHart h k t
+    pub unserved-read : (k : HartRegister) → 0 ≡ readHart h k t
     unfolding readHart
-    unreached-read k = no-is _ _ _ _ no refl
+    unserved-read k = no-is _ _ _ _ no refl
 
-    pub unreached-signal : false ≡ signalled h t
+    pub unserved-signal : false ≡ signalled h t
     unfolding signalled
-    unreached-signal = sym (off _ _ no)
+    unserved-signal = sym (off _ _ no)
       where
         off : (a b : Bool) → a ≡ false → a && b ≡ false
         off a b e = rw e
 
-  -- ---- a hart that is reached
-  module _ (yes : reaches h t ≡ true) where
+  -- ---- a hart that is served
+  module _ (yes : serves h t ≡ true) where
     -- a claim by hart h with the record x
     module _ (x : Hart) (v : ℕ) (hv : v ≡ topAt h (x .threshold) t) where
-      pub top-reached : v ≡ topi h (x .threshold) t
+      pub top-served : v ≡ topi h (x .threshold) t
       unfolding topi
-      top-reached = yes-is _ _ _ _ yes hv
+      top-served = yes-is _ _ _ _ yes hv
 
       module _ (z : v ≡ 0) where
         zero : eqb (topi h (x .threshold) t) 0 ≡ true
-        zero = eq-eqb _ _ (sym top-reached ∙ z)
+        zero = eq-eqb _ _ (sym top-served ∙ z)
 
         pub nothing-topi : 0 ≡ topi h (x .threshold) t
-        nothing-topi = sym z ∙ top-reached
+        nothing-topi = sym z ∙ top-served
 
         pub nothing-table : t ≡ claimTable h (x .threshold) t
         unfolding claimTable
@@ -121,7 +121,7 @@ module _ (t : Table) (h : ℕ) where
 
       module _ (z : v ≡ 0 → ⊥) where
         some : eqb (topi h (x .threshold) t) 0 ≡ false
-        some = ne-eqb _ _ (λ e. z (top-reached ∙ e))
+        some = ne-eqb _ _ (λ e. z (top-served ∙ e))
 
         pub taken-hart : x ≡ claimHart h x t
         unfolding claimHart
@@ -129,7 +129,7 @@ module _ (t : Table) (h : ℕ) where
 
         pub taken-table : (u : Table) → u ≡ act (only (v / 0x1_0000 % 1024)) (handed (t .delivery)) t → u ≡ claimTable h (x .threshold) t
         unfolding claimTable
-        taken-table u e = no-is _ _ _ _ some (e ∙ ap (λ (w : ℕ). act (only (w / 0x1_0000 % 1024)) (handed (t .delivery)) t) top-reached)
+        taken-table u e = no-is _ _ _ _ some (e ∙ ap (λ (w : ℕ). act (only (w / 0x1_0000 % 1024)) (handed (t .delivery)) t) top-served)
 
     pub wrote-is : (k : HartRegister) (v : ℕ) (x y : Hart) → x ≡ t .hart h → y ≡ wroteOf k v x → withHart h y t ≡ writeHart h k v t
     unfolding writeHart
@@ -161,7 +161,7 @@ module _ (t : Table) (h : ℕ) where
     module _ (x : Hart) (hx : x ≡ t .hart h) where
       value-is : (v : ℕ) → v ≡ topAt h (x .threshold) t → v ≡ claimValue h t
       unfolding claimValue
-      value-is v e = top-reached x v e ∙ ap (λ (z : Hart). topi h (z .threshold) t) hx
+      value-is v e = top-served x v e ∙ ap (λ (z : Hart). topi h (z .threshold) t) hx
 
       signal-by : (a b : Bool) → t .enable && x .delivery ≡ a → x .force || not (eqb (claimValue h t) 0) ≡ b → a && b ≡ signalled h t
       unfolding signalled
@@ -183,18 +183,18 @@ module _ (t : Table) (h : ℕ) where
 -- a claim with the record that the table has for the hart
 pub claimed-by : (t u : Table) (h : ℕ) (y : Hart) → y ≡ claimHart h (t .hart h) t → u ≡ claimTable h (t .hart h .threshold) t → withHart h y u ≡ claimed h t
 unfolding claimed
-claimed-by t u h y hy hu = go (reaches h t) refl
+claimed-by t u h y hy hu = go (serves h t) refl
   where
-    go : (b : Bool) → reaches h t ≡ b → withHart h y u ≡ pick b (withHart h (claimHart h (t .hart h) t) (claimTable h (t .hart h .threshold) t)) t
+    go : (b : Bool) → serves h t ≡ b → withHart h y u ≡ pick b (withHart h (claimHart h (t .hart h) t) (claimTable h (t .hart h .threshold) t)) t
     go true e = ap₂ (λ (z : Hart) (w : Table). withHart h z w) hy hu
     go false e =
-        ap₂ (λ (z : Hart) (w : Table). withHart h z w) (hy ∙ sym (unreached-hart t h e (t .hart h))) (hu ∙ sym (unreached-table t h e (t .hart h .threshold)))
+        ap₂ (λ (z : Hart) (w : Table). withHart h z w) (hy ∙ sym (unserved-hart t h e (t .hart h))) (hu ∙ sym (unserved-table t h e (t .hart h .threshold)))
         ∙ with-own t h
 
 -- a claim leaves the threshold alone
 pub claim-small : (t : Table) (h : ℕ) (x : Hart) → x .threshold < 256 → claimHart h x t .threshold < 256
 unfolding claimHart unforced
-claim-small t h x l = go (reaches h t) (eqb (topi h (x .threshold) t) 0)
+claim-small t h x l = go (serves h t) (eqb (topi h (x .threshold) t) 0)
   where
     go : (b c : Bool) → pick b (pick c (unforced x) x) x .threshold < 256
     go true true = l

@@ -11,8 +11,9 @@ use lib.Dec.{eqb}
 use lib.ListN.{getD, set, length, length-map, replicate, getD-replicate}
 use lib.Seq.{getD-set-same, getD-set-other}
 use Rattle.memory.specs.Choice.{pick}
-use Rattle.word.specs.Word.{marks, inside, only, digit, lowest}
-use Rattle.word.proofs.Bits.{and-true, within, is-inside, zero-digit}
+use Rattle.word.specs.Word.{contains, isSource, only, digit, lowest}
+use Rattle.memory.proofs.Truth.{and-true}
+use Rattle.word.proofs.Bits.{within, is-source, zero-digit}
 use Rattle.register.specs.declared.BitRegister.{BitRegister}
 use Rattle.register.specs.declared.Register.{Register}
 use Rattle.register.specs.declared.Register.the-variants.{DomainCfg, SourceCfg, OfBits, Target, Nothing}
@@ -35,12 +36,12 @@ use Rattle.aplic.specs.declared.Domain.{Domain}
 use Rattle.aplic.specs.declared.Msi.{Msi}
 use Rattle.aplic.specs.declared.Sent.the-variants.{Forwarded}
 use Rattle.aplic.specs.Calls.{wireTable, wireRefusal, concerned, change, enabledBy, writeRegister, readRegister, deliveryNumber, domainWord, forwardTable, sends, sentOf, msiOf}
-use Rattle.aplic.specs.Direct.{reaches, withHart, topAt, topi, claimTable, claimHart, claimed, claimValue, writeHart, readHart, signalled}
+use Rattle.aplic.specs.Direct.{serves, withHart, topAt, topi, claimTable, claimHart, claimed, claimValue, writeHart, readHart, signalled}
 use Rattle.aplic.specs.Domain.{commonOf, tableOf, Shows}
 use Rattle.aplic.proofs.Tables.{same-table, acts-ext, handed-is, written, told, acts-table, row-at, configured-table, aimed-table, wired-table, unwired-table, none-sent, none-waits, kept-table, kept-sent, forwarded-table, forwarded-sent}
 use Rattle.aplic.proofs.Tops.{Looked, looked-first, looked-next, looked-some, looked-less, looked-done}
-use Rattle.aplic.proofs.Claims.{reach-yes, reach-mode, reach-refused, below-of, unreached-topi, unreached-table, unreached-hart, unreached-claim, unreached-value, unreached-write, unreached-read, unreached-signal}
-use Rattle.aplic.proofs.Claims.{top-reached, nothing-topi, nothing-table, nothing-hart, taken-hart, taken-table, claimed-by, claim-small, wrote-is, tells-delivery, tells-force, tells-threshold, tells-top, table-forced, table-top, table-off}
+use Rattle.aplic.proofs.Claims.{serve-yes, serve-mode, serve-refused, below-of, unserved-topi, unserved-table, unserved-hart, unserved-claim, unserved-value, unserved-write, unserved-read, unserved-signal}
+use Rattle.aplic.proofs.Claims.{top-served, nothing-topi, nothing-table, nothing-hart, taken-hart, taken-table, claimed-by, claim-small, wrote-is, tells-delivery, tells-force, tells-threshold, tells-top, table-forced, table-top, table-off}
 
 abbrev pub aims : List ℕ → ℕ → ℕ
 aims targets n = getD targets n 0
@@ -81,7 +82,7 @@ msi-is v = rw div-one
 
 pub wire-taken : (n : ℕ) → (n ≡ 0 → ⊥) → n ≤ 63 → 0 ≡ wireRefusal n
 unfolding wireRefusal
-wire-taken n a b = rw (is-inside n (omega arith) (omega arith))
+wire-taken n a b = rw (is-source n (omega arith) (omega arith))
 
 pub refused-zero : (n : ℕ) → n ≡ 0 → 2014 ≡ wireRefusal n
 unfolding wireRefusal
@@ -103,14 +104,14 @@ zeros = record { wired = 0; level = 0; low = 0; wires = 0; pending = 0; enable =
 
 pub started : (dm : Delivery) → tableOf (record { delivery = dm; enable = false; sources = zeros; targets = replicate 64 0; harts = replicate 16 0 }) ≡ startOf dm
 unfolding tableOf tableWith sourceOf
-started dm = same-table _ _ _ _ _ _ _ _ refl refl (fun-ext (λ h. rests 16 h)) (λ i. go i (inside i) refl)
+started dm = same-table _ _ _ _ _ _ _ _ refl refl (fun-ext (λ h. rests 16 h)) (λ i. go i (isSource i) refl)
   where
     rests : (n h : ℕ) → recordOf (getD (replicate n 0) h 0) ≡ resting
     rests zero h = record-rests
     rests (suc n) zero = record-rests
     rests (suc n) (suc h) = rests n h
 
-    go : (i : ℕ) (b : Bool) → inside i ≡ b → pick b (sourceOf zeros i (getD (replicate 64 0) i 0)) quiet ≡ quiet
+    go : (i : ℕ) (b : Bool) → isSource i ≡ b → pick b (sourceOf zeros i (getD (replicate 64 0) i 0)) quiet ≡ quiet
     go i true k = rw (zero-digit i, getD-replicate {A = ℕ} 64 i 0 0 (within i k .1))
     go i false k = refl
 
@@ -128,7 +129,7 @@ hart-put d h w y e s l = same-table _ _ _ _ _ _ _ _ refl refl (fun-ext (λ k. ap
 module _ (d : Domain) where
   -- ---- a wire
   module _ (n : ℕ) (level : Bool) where
-    pub wire-goes : (mask : ℕ) (x : Sources) → ((i : ℕ) → inside i ≡ true → marks mask i ≡ only n i) → Acts (marks mask) (sensed (d .delivery) level) (d .sources) x → tableOf (withSources d x) ≡ wireTable n level (tableOf d)
+    pub wire-goes : (mask : ℕ) (x : Sources) → ((i : ℕ) → isSource i ≡ true → contains mask i ≡ only n i) → Acts (contains mask) (sensed (d .delivery) level) (d .sources) x → tableOf (withSources d x) ≡ wireTable n level (tableOf d)
     unfolding tableOf
     wire-goes mask x h a = wired-table (commonOf d) (d .sources) (aims (d .targets)) n level mask x h a
 
@@ -210,7 +211,7 @@ module _ (d : Domain) where
     unfolding tableOf
     forward-none l = none-waits (commonOf d) (d .sources) (aims (d .targets)) n hn l
 
-    pub forward-goes : (b : Bool) (mask : ℕ) (x : Sources) → b ≡ directOf (d .delivery) → d .enable && not b ≡ true → n < 64 → ((i : ℕ) → inside i ≡ true → marks mask i ≡ only n i) → Acts (marks mask) (lowered (d .delivery)) (d .sources) x
+    pub forward-goes : (b : Bool) (mask : ℕ) (x : Sources) → b ≡ directOf (d .delivery) → d .enable && not b ≡ true → n < 64 → ((i : ℕ) → isSource i ≡ true → contains mask i ≡ only n i) → Acts (contains mask) (lowered (d .delivery)) (d .sources) x
         → tableOf (withSources d x) ≡ forwardTable (tableOf d)
     unfolding tableOf
     forward-goes b mask x hb e l h a = forwarded-table (commonOf d) (d .sources) (aims (d .targets)) n hn b hb e l mask x h a
@@ -233,12 +234,12 @@ module _ (d : Domain) where
   enable-there = refl
 
   -- the loop
-  pub top-first : (h th left best i : ℕ) → left ≡ bitAnd (d .sources .pending) (d .sources .enable) / 2 * 2 → best ≡ limitOf th → i ≡ lowest 63 1 (marks left)
+  pub top-first : (h th left best i : ℕ) → left ≡ bitAnd (d .sources .pending) (d .sources .enable) / 2 * 2 → best ≡ limitOf th → i ≡ lowest 63 1 (contains left)
       → Looked (commonOf d) (d .sources) (aims (d .targets)) h th left best i
   top-first h th left best i e = looked-first (commonOf d) (d .sources) (aims (d .targets)) h th left best i e
 
   module _ (h th left best i : ℕ) (p : Looked (commonOf d) (d .sources) (aims (d .targets)) h th left best i) where
-    pub top-next : (r n left′ : ℕ) → i < 64 → r ≡ betterOf h i (getD (d .targets) i 0) best → left′ ≡ bitAnd left (left - 1) → n ≡ lowest 63 1 (marks left′)
+    pub top-next : (r n left′ : ℕ) → i < 64 → r ≡ betterOf h i (getD (d .targets) i 0) best → left′ ≡ bitAnd left (left - 1) → n ≡ lowest 63 1 (contains left′)
         → Looked (commonOf d) (d .sources) (aims (d .targets)) h th left′ r n
     top-next r n left′ l = looked-next (commonOf d) (d .sources) (aims (d .targets)) h th left best i p l r n left′
 
@@ -258,11 +259,11 @@ module _ (d : Domain) where
 
     -- registers
     module _ (h : ℕ) (below : h < 16) where
-      there : b ≡ true → reaches h (tableOf d) ≡ true
-      there e = reach-yes (tableOf d) h b below mode-is e
+      there : b ≡ true → serves h (tableOf d) ≡ true
+      there e = serve-yes (tableOf d) h b below mode-is e
 
-      not-there : b ≡ false → reaches h (tableOf d) ≡ false
-      not-there e = reach-mode (tableOf d) h b mode-is e
+      not-there : b ≡ false → serves h (tableOf d) ≡ false
+      not-there e = serve-mode (tableOf d) h b mode-is e
 
       pub hart-written : (k : HartRegister) (v w : ℕ) (x y : Hart) → b ≡ true → length (d .harts) ≡ 16 → x ≡ recordOf (getD (d .harts) h 0) → y ≡ wroteOf k v x → w ≡ keptOf y → tableOf (harted d h w) ≡ writeHart h k v (tableOf d)
       hart-written k v w x y e l hx q hw =
@@ -270,10 +271,10 @@ module _ (d : Domain) where
           hart-put d h w y hw (rw hy (wrote-small k v (recordOf (getD (d .harts) h 0)) (record-small (getD (d .harts) h 0)))) (omega (arith, l)) ∙ wrote-is (tableOf d) h (there e) k v (recordOf (getD (d .harts) h 0)) y (hart-there h) hy
 
       pub hart-ignored : (k : HartRegister) (v : ℕ) → b ≡ false → tableOf d ≡ writeHart h k v (tableOf d)
-      hart-ignored k v e = unreached-write (tableOf d) h (not-there e) k v
+      hart-ignored k v e = unserved-write (tableOf d) h (not-there e) k v
 
       pub hart-silent : (k : HartRegister) → b ≡ false → 0 ≡ readHart h k (tableOf d)
-      hart-silent k e = unreached-read (tableOf d) h (not-there e) k
+      hart-silent k e = unserved-read (tableOf d) h (not-there e) k
 
       module _ (k : HartRegister) (e : b ≡ true) (x : Hart) (hx : x ≡ recordOf (getD (d .harts) h 0)) where
         pub hart-delivery : (v : ℕ) → k ≡ IDelivery → v ≡ digit (x .delivery) → v ≡ readHart h k (tableOf d)
@@ -308,12 +309,12 @@ module _ (d : Domain) where
           where
             go : (x : Bool) → b ≡ x → x && (d .enable && own .delivery) ≡ false → false ≡ signalled h (tableOf d)
             go true p q = table-off (tableOf d) h (there p) own (hx ∙ hart-there h) (sym on-there ∙ q)
-            go false p q = unreached-signal (tableOf d) h (not-there p)
+            go false p q = unserved-signal (tableOf d) h (not-there p)
 
     -- a claim with the record x
     module _ (h : ℕ) (x : Hart) (r : ℕ) (hr : r ≡ hartRefusal h) where
       module _ (z : r ≡ 0) (e : b ≡ true) (v : ℕ) (hv : v ≡ topAt h (x .threshold) (tableOf d)) where
-        here : reaches h (tableOf d) ≡ true
+        here : serves h (tableOf d) ≡ true
         here = there h (below-of h r hr z) e
 
         pub none-table : v ≡ 0 → tableOf d ≡ claimTable h (x .threshold) (tableOf d)
@@ -325,51 +326,51 @@ module _ (d : Domain) where
         pub none-value : v ≡ 0 → 0 ≡ topi h (x .threshold) (tableOf d)
         none-value n = nothing-topi (tableOf d) h here x v hv n
 
-        pub took-table : (mask : ℕ) (y : Sources) → (v ≡ 0 → ⊥) → ((i : ℕ) → inside i ≡ true → marks mask i ≡ only (v / 0x1_0000 % 1024) i)
-            → Acts (marks mask) (lowered (d .delivery)) (d .sources) y → tableOf (withSources d y) ≡ claimTable h (x .threshold) (tableOf d)
+        pub took-table : (mask : ℕ) (y : Sources) → (v ≡ 0 → ⊥) → ((i : ℕ) → isSource i ≡ true → contains mask i ≡ only (v / 0x1_0000 % 1024) i)
+            → Acts (contains mask) (lowered (d .delivery)) (d .sources) y → tableOf (withSources d y) ≡ claimTable h (x .threshold) (tableOf d)
         unfolding tableOf tableWith
         took-table mask y n m a =
             taken-table (tableOf d) h here x v hv n (tableOf (withSources d y))
-            (acts-table (commonOf d) (d .sources) y (aims (d .targets)) (only (v / 0x1_0000 % 1024)) (lowered (d .delivery)) (acts-ext (marks mask) (only (v / 0x1_0000 % 1024)) (lowered (d .delivery)) (d .sources) y m a)
+            (acts-table (commonOf d) (d .sources) y (aims (d .targets)) (only (v / 0x1_0000 % 1024)) (lowered (d .delivery)) (acts-ext (contains mask) (only (v / 0x1_0000 % 1024)) (lowered (d .delivery)) (d .sources) y m a)
             ∙ ap (λ (f : Source → Source). act (only (v / 0x1_0000 % 1024)) f (tableOf d)) (handed-is (d .delivery)))
 
         pub took-hart : (v ≡ 0 → ⊥) → x ≡ claimHart h x (tableOf d)
         took-hart n = taken-hart (tableOf d) h here x v hv n
 
         pub took-value : (v ≡ 0 → ⊥) → v ≡ topi h (x .threshold) (tableOf d)
-        took-value n = top-reached (tableOf d) h here x v hv
+        took-value n = top-served (tableOf d) h here x v hv
 
       module _ (e : b ≡ false) where
         pub mode-table : tableOf d ≡ claimTable h (x .threshold) (tableOf d)
-        mode-table = unreached-table (tableOf d) h (reach-mode (tableOf d) h b mode-is e) (x .threshold)
+        mode-table = unserved-table (tableOf d) h (serve-mode (tableOf d) h b mode-is e) (x .threshold)
 
         pub mode-hart : x ≡ claimHart h x (tableOf d)
-        mode-hart = unreached-hart (tableOf d) h (reach-mode (tableOf d) h b mode-is e) x
+        mode-hart = unserved-hart (tableOf d) h (serve-mode (tableOf d) h b mode-is e) x
 
         pub mode-value : 0 ≡ topi h (x .threshold) (tableOf d)
-        mode-value = unreached-topi (tableOf d) h (reach-mode (tableOf d) h b mode-is e) (x .threshold)
+        mode-value = unserved-topi (tableOf d) h (serve-mode (tableOf d) h b mode-is e) (x .threshold)
 
   module _ (h : ℕ) (r : ℕ) (hr : r ≡ hartRefusal h) (z : r ≡ 0 → ⊥) where
-    away : reaches h (tableOf d) ≡ false
-    away = reach-refused (tableOf d) h r hr z
+    away : serves h (tableOf d) ≡ false
+    away = serve-refused (tableOf d) h r hr z
 
     pub refused-table : (x : Hart) → tableOf d ≡ claimTable h (x .threshold) (tableOf d)
-    refused-table x = unreached-table (tableOf d) h away (x .threshold)
+    refused-table x = unserved-table (tableOf d) h away (x .threshold)
 
     pub refused-hart : (x : Hart) → x ≡ claimHart h x (tableOf d)
-    refused-hart x = unreached-hart (tableOf d) h away x
+    refused-hart x = unserved-hart (tableOf d) h away x
 
     pub refused-topi : (x : Hart) → 0 ≡ topi h (x .threshold) (tableOf d)
-    refused-topi x = unreached-topi (tableOf d) h away (x .threshold)
+    refused-topi x = unserved-topi (tableOf d) h away (x .threshold)
 
     pub refused-claim : tableOf d ≡ claimed h (tableOf d)
-    refused-claim = unreached-claim (tableOf d) h away
+    refused-claim = unserved-claim (tableOf d) h away
 
     pub refused-value : 0 ≡ claimValue h (tableOf d)
-    refused-value = unreached-value (tableOf d) h away
+    refused-value = unserved-value (tableOf d) h away
 
     pub refused-signal : false ≡ signalled h (tableOf d)
-    refused-signal = unreached-signal (tableOf d) h away
+    refused-signal = unserved-signal (tableOf d) h away
 
   -- a claim with the hart's own record, which is put back
   module _ (h : ℕ) (x : Hart) (hx : x ≡ recordOf (getD (d .harts) h 0)) where

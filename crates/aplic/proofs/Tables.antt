@@ -7,8 +7,8 @@ use borrow.Author.Tests.{eqb-true, lt-ltb, le-ltb}
 use lib.Dec.{eqb, ltb}
 use Rattle.memory.specs.Choice.{pick}
 use Rattle.memory.proofs.Choices.{yes-is, no-is}
-use Rattle.word.specs.Word.{marks, inside, half, chosen, only}
-use Rattle.word.proofs.Bits.{within, is-inside, lowest-ext, lowest-from, half-ext}
+use Rattle.word.specs.Word.{contains, isSource, half, chosen, only}
+use Rattle.word.proofs.Bits.{within, is-source, lowest-ext, lowest-from, half-ext}
 use Rattle.register.specs.declared.BitRegister.{BitRegister}
 use Rattle.register.specs.declared.BitRegister.the-variants.{SetIp, SetIpNum, InClrIp, ClrIpNum, SetIe, SetIeNum, ClrIe, ClrIeNum}
 use Rattle.register.specs.declared.Register.{Register}
@@ -19,7 +19,7 @@ use Rattle.source.specs.declared.Delivery.the-variants.{Direct, Message}
 use Rattle.source.specs.declared.Mode.{Mode}
 use Rattle.source.specs.declared.Mode.the-variants.{Inactive, Detached, Edge1, Edge0, Level1, Level0}
 use Rattle.source.specs.declared.Source.{Source}
-use Rattle.source.specs.Source.{directOf, clrip, delivered, pendingAfter, inputOf, sensed, raised, lowered, handed, allowed, aimed}
+use Rattle.source.specs.Source.{directOf, clrip, delivered, newPending, inputOf, sensed, raised, lowered, handed, allowed, aimed}
 use Rattle.source.specs.Table.{Table, quiet, act}
 use Rattle.sources.specs.declared.Sources.{Sources}
 use Rattle.sources.specs.Sources.{sourceOf, Common, tableWith, Acts, Inputs, lined, firstWaiting}
@@ -34,55 +34,55 @@ pub same-table : (d e : Delivery) (x y : Bool) (f g : ℕ → Source) (u v : ℕ
 same-table d e x y f g u v p q k r = let h : f ≡ g = fun-ext r in rw (p, q, k, h)
 
 -- ---- sources chosen in two ways
-pub acts-ext : (sel sel′ : ℕ → Bool) (f : Source → Source) (s r : Sources) → ((i : ℕ) → inside i ≡ true → sel i ≡ sel′ i) → Acts sel f s r → Acts sel′ f s r
+pub acts-ext : (sel sel′ : ℕ → Bool) (f : Source → Source) (s r : Sources) → ((i : ℕ) → isSource i ≡ true → sel i ≡ sel′ i) → Acts sel f s r → Acts sel′ f s r
 unfolding Acts
-acts-ext sel sel′ f s r h a i t p q = a i t p q ∙ ap (λ (b : Bool). pick b (f (sourceOf s i t)) (sourceOf s i t)) (h i (is-inside i p q))
+acts-ext sel sel′ f s r h a i t p q = a i t p q ∙ ap (λ (b : Bool). pick b (f (sourceOf s i t)) (sourceOf s i t)) (h i (is-source i p q))
 
 -- ---- the arms of a write to a register of bits
 module _ (s r : Sources) (d : Delivery) (v mask : ℕ) (b : BitRegister) where
-  arm : (sel : ℕ → Bool) (f : Source → Source) → ((i : ℕ) → inside i ≡ true → marks mask i ≡ sel i) → sel ≡ concerned b v → f ≡ change d b → Acts (marks mask) f s r → Acts (concerned b v) (change d b) s r
-  arm sel f h p q a = rw (sym p, sym q) (acts-ext (marks mask) sel f s r h a)
+  arm : (sel : ℕ → Bool) (f : Source → Source) → ((i : ℕ) → isSource i ≡ true → contains mask i ≡ sel i) → sel ≡ concerned b v → f ≡ change d b → Acts (contains mask) f s r → Acts (concerned b v) (change d b) s r
+  arm sel f h p q a = rw (sym p, sym q) (acts-ext (contains mask) sel f s r h a)
 
-  module _ (high : Bool) (h : (i : ℕ) → inside i ≡ true → marks mask i ≡ chosen high v i) where
-    pub arm-setip : b ≡ SetIp high → Acts (marks mask) (raised d) s r → Acts (concerned b v) (change d b) s r
+  module _ (high : Bool) (h : (i : ℕ) → isSource i ≡ true → contains mask i ≡ chosen high v i) where
+    pub arm-setip : b ≡ SetIp high → Acts (contains mask) (raised d) s r → Acts (concerned b v) (change d b) s r
     unfolding concerned change
     arm-setip e a = arm (chosen high v) (raised d) h (ap (λ (x : BitRegister). concerned x v) (sym e)) (ap (change d) (sym e)) a
 
-    pub arm-clrip : b ≡ InClrIp high → Acts (marks mask) (lowered d) s r → Acts (concerned b v) (change d b) s r
+    pub arm-clrip : b ≡ InClrIp high → Acts (contains mask) (lowered d) s r → Acts (concerned b v) (change d b) s r
     unfolding concerned change
     arm-clrip e a = arm (chosen high v) (lowered d) h (ap (λ (x : BitRegister). concerned x v) (sym e)) (ap (change d) (sym e)) a
 
-    pub arm-setie : b ≡ SetIe high → Acts (marks mask) (allowed true) s r → Acts (concerned b v) (change d b) s r
+    pub arm-setie : b ≡ SetIe high → Acts (contains mask) (allowed true) s r → Acts (concerned b v) (change d b) s r
     unfolding concerned change
     arm-setie e a = arm (chosen high v) (allowed true) h (ap (λ (x : BitRegister). concerned x v) (sym e)) (ap (change d) (sym e)) a
 
-    pub arm-clrie : b ≡ ClrIe high → Acts (marks mask) (allowed false) s r → Acts (concerned b v) (change d b) s r
+    pub arm-clrie : b ≡ ClrIe high → Acts (contains mask) (allowed false) s r → Acts (concerned b v) (change d b) s r
     unfolding concerned change
     arm-clrie e a = arm (chosen high v) (allowed false) h (ap (λ (x : BitRegister). concerned x v) (sym e)) (ap (change d) (sym e)) a
 
-  module _ (h : (i : ℕ) → inside i ≡ true → marks mask i ≡ only v i) where
-    pub arm-setipnum : b ≡ SetIpNum → Acts (marks mask) (raised d) s r → Acts (concerned b v) (change d b) s r
+  module _ (h : (i : ℕ) → isSource i ≡ true → contains mask i ≡ only v i) where
+    pub arm-setipnum : b ≡ SetIpNum → Acts (contains mask) (raised d) s r → Acts (concerned b v) (change d b) s r
     unfolding concerned change
     arm-setipnum e a = arm (only v) (raised d) h (ap (λ (x : BitRegister). concerned x v) (sym e)) (ap (change d) (sym e)) a
 
-    pub arm-clripnum : b ≡ ClrIpNum → Acts (marks mask) (lowered d) s r → Acts (concerned b v) (change d b) s r
+    pub arm-clripnum : b ≡ ClrIpNum → Acts (contains mask) (lowered d) s r → Acts (concerned b v) (change d b) s r
     unfolding concerned change
     arm-clripnum e a = arm (only v) (lowered d) h (ap (λ (x : BitRegister). concerned x v) (sym e)) (ap (change d) (sym e)) a
 
-    pub arm-setienum : b ≡ SetIeNum → Acts (marks mask) (allowed true) s r → Acts (concerned b v) (change d b) s r
+    pub arm-setienum : b ≡ SetIeNum → Acts (contains mask) (allowed true) s r → Acts (concerned b v) (change d b) s r
     unfolding concerned change
     arm-setienum e a = arm (only v) (allowed true) h (ap (λ (x : BitRegister). concerned x v) (sym e)) (ap (change d) (sym e)) a
 
-    pub arm-clrienum : b ≡ ClrIeNum → Acts (marks mask) (allowed false) s r → Acts (concerned b v) (change d b) s r
+    pub arm-clrienum : b ≡ ClrIeNum → Acts (contains mask) (allowed false) s r → Acts (concerned b v) (change d b) s r
     unfolding concerned change
     arm-clrienum e a = arm (only v) (allowed false) h (ap (λ (x : BitRegister). concerned x v) (sym e)) (ap (change d) (sym e)) a
 
 pub ruleset bit-arms = (arm-setip, arm-clrip, arm-setie, arm-clrie, arm-setipnum, arm-clripnum, arm-setienum, arm-clrienum)
 
 -- ---- what a register of bits shows
-field-row : (s : Sources) (co : Common) (targets : ℕ → ℕ) (p : Source → Bool) (i : ℕ) → p quiet ≡ false → inside i && p (sourceOf s i (targets i)) ≡ p (tableWith co s targets .row i)
+field-row : (s : Sources) (co : Common) (targets : ℕ → ℕ) (p : Source → Bool) (i : ℕ) → p quiet ≡ false → isSource i && p (sourceOf s i (targets i)) ≡ p (tableWith co s targets .row i)
 unfolding tableWith
-field-row s co targets p i z = go (inside i)
+field-row s co targets p i z = go (isSource i)
   where
     go : (b : Bool) → b && p (sourceOf s i (targets i)) ≡ p (pick b (sourceOf s i (targets i)) quiet)
     go true = refl
@@ -93,24 +93,24 @@ module _ (s : Sources) (b : BitRegister) (x : ℕ) where
   shown c e h = rw e h
 
   module _ (high : Bool) where
-    pub show-pending : b ≡ SetIp high → x ≡ half high (λ i. inside i && marks (s .pending) i) → Shows b s x
+    pub show-pending : b ≡ SetIp high → x ≡ half high (λ i. isSource i && contains (s .pending) i) → Shows b s x
     unfolding Shows readBits sourceOf
     show-pending e h = shown (SetIp high) e (λ co targets. h ∙ half-ext high _ _ (λ i. row co targets i))
       where
-        row : (co : Common) (targets : ℕ → ℕ) (i : ℕ) → inside i && marks (s .pending) i ≡ tableWith co s targets .row i .pending
+        row : (co : Common) (targets : ℕ → ℕ) (i : ℕ) → isSource i && contains (s .pending) i ≡ tableWith co s targets .row i .pending
         row co targets i = field-row s co targets (λ y. y .pending) i refl
 
-    pub show-enable : b ≡ SetIe high → x ≡ half high (λ i. inside i && marks (s .enable) i) → Shows b s x
+    pub show-enable : b ≡ SetIe high → x ≡ half high (λ i. isSource i && contains (s .enable) i) → Shows b s x
     unfolding Shows readBits sourceOf
     show-enable e h = shown (SetIe high) e (λ co targets. h ∙ half-ext high _ _ (λ i. row co targets i))
       where
-        row : (co : Common) (targets : ℕ → ℕ) (i : ℕ) → inside i && marks (s .enable) i ≡ tableWith co s targets .row i .enable
+        row : (co : Common) (targets : ℕ → ℕ) (i : ℕ) → isSource i && contains (s .enable) i ≡ tableWith co s targets .row i .enable
         row co targets i = field-row s co targets (λ y. y .enable) i refl
 
-    pub show-inputs : (w : ℕ) → Inputs s w → b ≡ InClrIp high → x ≡ half high (λ i. inside i && marks w i) → Shows b s x
+    pub show-inputs : (w : ℕ) → Inputs s w → b ≡ InClrIp high → x ≡ half high (λ i. isSource i && contains w i) → Shows b s x
     unfolding Shows readBits Inputs
     show-inputs w k e h =
-        shown (InClrIp high) e (λ co targets. h ∙ half-ext high _ _ (λ i. ap (λ (c : Bool). inside i && c) (k i (targets i)) ∙ field-row s co targets inputOf i refl))
+        shown (InClrIp high) e (λ co targets. h ∙ half-ext high _ _ (λ i. ap (λ (c : Bool). isSource i && c) (k i (targets i)) ∙ field-row s co targets inputOf i refl))
 
   pub show-setipnum : b ≡ SetIpNum → x ≡ 0 → Shows b s x
   unfolding Shows readBits
@@ -138,13 +138,13 @@ pub ruleset shows = (show-pending, show-enable, show-inputs, show-setipnum, show
 module _ (co : Common) (s r : Sources) (targets : ℕ → ℕ) where
   pub row-at : (n : ℕ) → 0 < n → n < 64 → sourceOf s n (targets n) ≡ tableWith co s targets .row n
   unfolding tableWith
-  row-at n a b = rw (is-inside n a b)
+  row-at n a b = rw (is-source n a b)
 
   pub acts-table : (sel : ℕ → Bool) (f : Source → Source) → Acts sel f s r → tableWith co r targets ≡ act sel f (tableWith co s targets)
   unfolding tableWith Acts
-  acts-table sel f a = same-table _ _ _ _ _ _ _ _ refl refl refl (λ i. go i (inside i) refl)
+  acts-table sel f a = same-table _ _ _ _ _ _ _ _ refl refl refl (λ i. go i (isSource i) refl)
     where
-      go : (i : ℕ) (b : Bool) → inside i ≡ b
+      go : (i : ℕ) (b : Bool) → isSource i ≡ b
           → pick b (sourceOf r i (targets i)) quiet ≡ pick (b && sel i) (f (pick b (sourceOf s i (targets i)) quiet)) (pick b (sourceOf s i (targets i)) quiet)
       go i true k = let w = within i k in a i (targets i) (w .0) (w .1)
       go i false k = refl
@@ -153,13 +153,13 @@ module _ (co : Common) (s r : Sources) (targets : ℕ → ℕ) where
   module _ (targets′ : ℕ → ℕ) (n : ℕ) (f : Source → Source) (x : Source) (hx : x ≡ f (sourceOf s n (targets n))) (ht : (i : ℕ) → targets′ i ≡ pick (eqb i n) (x .target) (targets i)) where
     one-table : ((i : ℕ) → 0 < i → i < 64 → sourceOf r i (targets′ i) ≡ pick (eqb i n) x (sourceOf s i (targets i))) → tableWith co r targets′ ≡ act (only n) f (tableWith co s targets)
     unfolding tableWith only
-    one-table h = same-table _ _ _ _ _ _ _ _ refl refl refl (λ i. go i (inside i) refl)
+    one-table h = same-table _ _ _ _ _ _ _ _ refl refl refl (λ i. go i (isSource i) refl)
       where
         at : (i : ℕ) (c : Bool) → eqb i n ≡ c → pick c x (sourceOf s i (targets i)) ≡ pick c (f (sourceOf s i (targets i))) (sourceOf s i (targets i))
         at i true e = hx ∙ ap (λ (j : ℕ). f (sourceOf s j (targets j))) (sym (eqb-true i n e))
         at i false e = refl
 
-        go : (i : ℕ) (b : Bool) → inside i ≡ b
+        go : (i : ℕ) (b : Bool) → isSource i ≡ b
             → pick b (sourceOf r i (targets′ i)) quiet ≡ pick (b && eqb i n) (f (pick b (sourceOf s i (targets i)) quiet)) (pick b (sourceOf s i (targets i)) quiet)
         go i true k = let w = within i k in h i (w .0) (w .1) ∙ at i (eqb i n) refl
         go i false k = refl
@@ -222,13 +222,13 @@ module _ (o : ℕ) (t : Table) where
 pub ruleset spans = (low-written, low-told, low-left, high-written, high-told, high-left)
 
 -- what is no source's is left alone
-pub outside : (n : ℕ) (f : Source → Source) (t : Table) → inside n ≡ false → t ≡ act (only n) f t
+pub outside : (n : ℕ) (f : Source → Source) (t : Table) → isSource n ≡ false → t ≡ act (only n) f t
 unfolding only
 outside n f t h = same-table _ _ _ _ _ _ _ _ refl refl refl (λ i. go i (eqb i n) refl)
   where
-    go : (i : ℕ) (c : Bool) → eqb i n ≡ c → t .row i ≡ pick (inside i && c) (f (t .row i)) (t .row i)
+    go : (i : ℕ) (c : Bool) → eqb i n ≡ c → t .row i ≡ pick (isSource i && c) (f (t .row i)) (t .row i)
     go i true e = rw (eqb-true i n e, h)
-    go i false e = both (inside i)
+    go i false e = both (isSource i)
       where
         both : (b : Bool) → t .row i ≡ pick (b && false) (f (t .row i)) (t .row i)
         both true = refl
@@ -236,13 +236,13 @@ outside n f t h = same-table _ _ _ _ _ _ _ _ refl refl refl (λ i. go i (eqb i n
 
 -- a wire
 module _ (co : Common) (s : Sources) (targets : ℕ → ℕ) (n : ℕ) (level : Bool) where
-  pub wired-table : (mask : ℕ) (r : Sources) → ((i : ℕ) → inside i ≡ true → marks mask i ≡ only n i) → Acts (marks mask) (sensed (co .delivery) level) s r → tableWith co r targets ≡ wireTable n level (tableWith co s targets)
+  pub wired-table : (mask : ℕ) (r : Sources) → ((i : ℕ) → isSource i ≡ true → contains mask i ≡ only n i) → Acts (contains mask) (sensed (co .delivery) level) s r → tableWith co r targets ≡ wireTable n level (tableWith co s targets)
   unfolding wireTable tableWith
-  wired-table mask r h a = acts-table co s r targets (only n) (sensed (co .delivery) level) (acts-ext (marks mask) (only n) (sensed (co .delivery) level) s r h a)
+  wired-table mask r h a = acts-table co s r targets (only n) (sensed (co .delivery) level) (acts-ext (contains mask) (only n) (sensed (co .delivery) level) s r h a)
 
-refused-outside : (n r : ℕ) → r ≡ wireRefusal n → (r ≡ 0 → ⊥) → inside n ≡ false
+refused-outside : (n r : ℕ) → r ≡ wireRefusal n → (r ≡ 0 → ⊥) → isSource n ≡ false
 unfolding wireRefusal
-refused-outside n r e z = go (inside n) e
+refused-outside n r e z = go (isSource n) e
   where
     go : (b : Bool) → r ≡ pick b 0 2014 → b ≡ false
     go true p = absurd (z p)
@@ -266,11 +266,11 @@ pub handed-is : (d : Delivery) → lowered d ≡ handed d
 unfolding lowered handed
 handed-is d = fun-ext (λ s. ap (λ (p : Bool). record { mode = s .mode; wire = s .wire; pending = p; enable = s .enable; target = s .target }) (go (s .mode) (s .pending)))
   where
-    level : (e : Delivery) (p : Bool) → pendingAfter e Level1 clrip p ≡ pendingAfter e Level1 delivered p
+    level : (e : Delivery) (p : Bool) → newPending e Level1 clrip p ≡ newPending e Level1 delivered p
     level Direct p = refl
     level Message p = refl
 
-    go : (m : Mode) (p : Bool) → pendingAfter d m clrip p ≡ pendingAfter d m delivered p
+    go : (m : Mode) (p : Bool) → newPending d m clrip p ≡ newPending d m delivered p
     go Inactive p = refl
     go Detached p = refl
     go Edge1 p = refl
@@ -302,7 +302,7 @@ module _ (co : Common) (s : Sources) (targets : ℕ → ℕ) where
   module _ (n : ℕ) (hn : n ≡ firstWaiting s) where
     first-from : 0 < n
     unfolding firstWaiting
-    first-from = omega (arith, hn, lowest-from 63 1 (λ i. marks (s .pending) i && marks (s .enable) i))
+    first-from = omega (arith, hn, lowest-from 63 1 (λ i. contains (s .pending) i && contains (s .enable) i))
 
     pub none-waits : 64 ≤ n → sends (tableWith co s targets) ≡ false
     unfolding sends
@@ -323,11 +323,11 @@ module _ (co : Common) (s : Sources) (targets : ℕ → ℕ) where
           both : (x y : Bool) → x ≡ true → y ≡ true → x && y ≡ true
           both x y p q = rw (p, q)
 
-      pub forwarded-table : (mask : ℕ) (r : Sources) → ((i : ℕ) → inside i ≡ true → marks mask i ≡ only n i) → Acts (marks mask) (lowered (co .delivery)) s r → tableWith co r targets ≡ forwardTable (tableWith co s targets)
+      pub forwarded-table : (mask : ℕ) (r : Sources) → ((i : ℕ) → isSource i ≡ true → contains mask i ≡ only n i) → Acts (contains mask) (lowered (co .delivery)) s r → tableWith co r targets ≡ forwardTable (tableWith co s targets)
       unfolding forwardTable tableWith
       forwarded-table mask r h a =
           yes-is _ _ _ _ sending
-          (acts-table co s r targets (only n) (lowered (co .delivery)) (acts-ext (marks mask) (only n) (lowered (co .delivery)) s r h a)
+          (acts-table co s r targets (only n) (lowered (co .delivery)) (acts-ext (contains mask) (only n) (lowered (co .delivery)) s r h a)
           ∙ ap (λ (f : Source → Source). act (only n) f (tableWith co s targets)) (handed-is (co .delivery))
           ∙ ap (λ (k : ℕ). act (only k) (handed (co .delivery)) (tableWith co s targets)) (hn ∙ top-is))
 

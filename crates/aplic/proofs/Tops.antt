@@ -7,8 +7,9 @@ use borrow.Author.Tests.{eq-eqb, lt-ltb, eqb-true, eqb-false, ltb-true, ltb-fals
 use lib.Bits.{bitAnd}
 use lib.Dec.{eqb, ltb}
 use Rattle.memory.specs.Choice.{pick}
-use Rattle.word.specs.Word.{marks, inside, lowest}
-use Rattle.word.proofs.Bits.{never, and-true, within, is-inside, bit-and, even-up, even-zero, some-bit, clear-lowest, clear-less, lowest-from, lowest-found, lowest-before, lowest-is, lowest-none}
+use Rattle.word.specs.Word.{contains, isSource, lowest}
+use Rattle.memory.proofs.Truth.{and-true}
+use Rattle.word.proofs.Bits.{never, within, is-source, bit-and, even-up, even-zero, some-bit, clear-lowest, clear-less, lowest-from, lowest-found, lowest-before, lowest-is, lowest-none}
 use Rattle.hart.specs.Hart.{hartIndex, priority, passes, keyOf, keys, topWord}
 use Rattle.hart.specs.Kept.{limitOf, betterOf}
 use Rattle.source.specs.declared.Source.{Source}
@@ -63,7 +64,7 @@ module _ (co : Common) (s : Sources) (targets : ℕ → ℕ) (h th : ℕ) where
 
   -- ---- a source that contributes
   record Counts (i : ℕ) : Type 0 where
-    waiting : marks waits i ≡ true
+    waiting : contains waits i ≡ true
     mine : hartIndex (targets i) ≡ h
     passed : passes th (priority (targets i)) ≡ true
 
@@ -101,7 +102,7 @@ module _ (co : Common) (s : Sources) (targets : ℕ → ℕ) (h th : ℕ) where
   unfolding leads sourceOf
   lead-at k i e a b c q =
       let r : t .row i ≡ sourceOf s i (targets i) = sym (row-at co s s targets i a b) in
-      rw e (all (inside i) _ _ (is-inside i a b) (ap (contributes h th) r ∙ counts-is i c) (eq-eqb _ _ (ap (λ (x : Source). keyOf i (x .target)) r ∙ q)))
+      rw e (all (isSource i) _ _ (is-source i a b) (ap (contributes h th) r ∙ counts-is i c) (eq-eqb _ _ (ap (λ (x : Source). keyOf i (x .target)) r ∙ q)))
     where
       all : (x y z : Bool) → x ≡ true → y ≡ true → z ≡ true → x && (y && z) ≡ true
       all x y z p q r = rw (p, q, r)
@@ -115,31 +116,31 @@ module _ (co : Common) (s : Sources) (targets : ℕ → ℕ) (h th : ℕ) where
     one : leads h th t best ≡ true → Found best
 
   pub record Looked (left best i : ℕ) : Type 0 where
-    pub next : i ≡ lowest 63 1 (marks left)
+    pub next : i ≡ lowest 63 1 (contains left)
     pub found : Found best
     pub low : best ≤ limitOf th
-    pub least : (j : ℕ) → 0 < j → j < 64 → marks waits j ≡ true → marks left j ≡ false → hartIndex (targets j) ≡ h → best ≤ keyOf j (targets j)
-    pub part : (j : ℕ) → 0 < j → marks left j ≡ true → marks waits j ≡ true
-    pub even : marks left 0 ≡ false
+    pub least : (j : ℕ) → 0 < j → j < 64 → contains waits j ≡ true → contains left j ≡ false → hartIndex (targets j) ≡ h → best ≤ keyOf j (targets j)
+    pub part : (j : ℕ) → 0 < j → contains left j ≡ true → contains waits j ≡ true
+    pub even : contains left 0 ≡ false
 
-  pub looked-first : (left best i : ℕ) → left ≡ waits / 2 * 2 → best ≡ limitOf th → i ≡ lowest 63 1 (marks left) → Looked left best i
+  pub looked-first : (left best i : ℕ) → left ≡ waits / 2 * 2 → best ≡ limitOf th → i ≡ lowest 63 1 (contains left) → Looked left best i
   looked-first left best i q e f =
-      let same : (j : ℕ) → 0 < j → marks left j ≡ marks waits j = λ j a. ap (λ (x : ℕ). marks x j) q ∙ even-up waits j a in
+      let same : (j : ℕ) → 0 < j → contains left j ≡ contains waits j = λ j a. ap (λ (x : ℕ). contains x j) q ∙ even-up waits j a in
       record {
         next = f;
         found = none e;
         low = omega (arith, e);
         least = λ j a b w l m. absurd (never (sym l ∙ same j a ∙ w));
         part = λ j a e. sym (same j a) ∙ e;
-        even = ap (λ (x : ℕ). marks x 0) q ∙ even-zero waits;
+        even = ap (λ (x : ℕ). contains x 0) q ∙ even-zero waits;
       }
 
   module _ (left best i : ℕ) (p : Looked left best i) (l : i < 64) where
-    there : marks left i ≡ true
-    there = ap (marks left) (p .next) ∙ lowest-found 63 1 (marks left) (omega (arith, p .next))
+    there : contains left i ≡ true
+    there = ap (contains left) (p .next) ∙ lowest-found 63 1 (contains left) (omega (arith, p .next))
 
     from-one : 0 < i
-    from-one = omega (arith, p .next, lowest-from 63 1 (marks left))
+    from-one = omega (arith, p .next, lowest-from 63 1 (contains left))
 
     pub looked-some : 0 < left
     looked-some = some-bit i left there
@@ -148,41 +149,41 @@ module _ (co : Common) (s : Sources) (targets : ℕ → ℕ) (h th : ℕ) where
     looked-less left′ e = omega (arith, e, clear-less left looked-some)
 
     -- i is the lowest that is left
-    none-below : (k : ℕ) → k < i → marks left k ≡ false
+    none-below : (k : ℕ) → k < i → contains left k ≡ false
     none-below zero b = p .even
-    none-below (suc k) b = lowest-before 63 1 (marks left) (suc k) (omega arith) (omega (arith, p .next))
+    none-below (suc k) b = lowest-before 63 1 (contains left) (suc k) (omega arith) (omega (arith, p .next))
 
-    cleared : (j : ℕ) → marks (bitAnd left (left - 1)) j ≡ pick (eqb j i) false (marks left j)
+    cleared : (j : ℕ) → contains (bitAnd left (left - 1)) j ≡ pick (eqb j i) false (contains left j)
     cleared j = clear-lowest i j left there none-below
 
     -- the sources looked at are those before, and i
     data Seen (j : ℕ) : Type 0 where
-      before : marks left j ≡ false → Seen j
+      before : contains left j ≡ false → Seen j
       last : j ≡ i → Seen j
 
-    looked-at : (j : ℕ) → marks (bitAnd left (left - 1)) j ≡ false → Seen j
+    looked-at : (j : ℕ) → contains (bitAnd left (left - 1)) j ≡ false → Seen j
     looked-at j e = go (eqb j i) refl (sym (cleared j) ∙ e)
       where
-        go : (b : Bool) → eqb j i ≡ b → pick b false (marks left j) ≡ false → Seen j
+        go : (b : Bool) → eqb j i ≡ b → pick b false (contains left j) ≡ false → Seen j
         go true q f = last (eqb-true j i q)
         go false q f = before f
 
-    part-left : (j : ℕ) → marks (bitAnd left (left - 1)) j ≡ true → marks left j ≡ true
+    part-left : (j : ℕ) → contains (bitAnd left (left - 1)) j ≡ true → contains left j ≡ true
     part-left j e = go (eqb j i) (sym (cleared j) ∙ e)
       where
-        go : (b : Bool) → pick b false (marks left j) ≡ true → marks left j ≡ true
+        go : (b : Bool) → pick b false (contains left j) ≡ true → contains left j ≡ true
         go true z = absurd (never z)
         go false z = z
 
-    part-even : marks (bitAnd left (left - 1)) 0 ≡ false
+    part-even : contains (bitAnd left (left - 1)) 0 ≡ false
     part-even = cleared 0 ∙ go (eqb 0 i)
       where
-        go : (b : Bool) → pick b false (marks left 0) ≡ false
+        go : (b : Bool) → pick b false (contains left 0) ≡ false
         go true = refl
         go false = p .even
 
     -- i is taken, or passed over
-    taken : hartIndex (targets i) ≡ h → keyOf i (targets i) < best → (n : ℕ) → n ≡ lowest 63 1 (marks (bitAnd left (left - 1))) → Looked (bitAnd left (left - 1)) (keyOf i (targets i)) n
+    taken : hartIndex (targets i) ≡ h → keyOf i (targets i) < best → (n : ℕ) → n ≡ lowest 63 1 (contains (bitAnd left (left - 1))) → Looked (bitAnd left (left - 1)) (keyOf i (targets i)) n
     taken m k n e =
         let c : Counts i = record { waiting = p .part i from-one there; mine = m; passed = limit-passes th i (targets i) (omega (arith, p .low)) } in
         record {
@@ -194,11 +195,11 @@ module _ (co : Common) (s : Sources) (targets : ℕ → ℕ) (h th : ℕ) where
           even = part-even;
         }
       where
-        at : (j : ℕ) → Seen j → 0 < j → j < 64 → marks waits j ≡ true → hartIndex (targets j) ≡ h → keyOf i (targets i) ≤ keyOf j (targets j)
+        at : (j : ℕ) → Seen j → 0 < j → j < 64 → contains waits j ≡ true → hartIndex (targets j) ≡ h → keyOf i (targets i) ≤ keyOf j (targets j)
         at j (before f) a b w mj = omega (arith, p .least j a b w f mj)
         at j (last q) a b w mj = rw q (omega arith)
 
-    passed-over : (hartIndex (targets i) ≡ h → best ≤ keyOf i (targets i)) → (n : ℕ) → n ≡ lowest 63 1 (marks (bitAnd left (left - 1))) → Looked (bitAnd left (left - 1)) best n
+    passed-over : (hartIndex (targets i) ≡ h → best ≤ keyOf i (targets i)) → (n : ℕ) → n ≡ lowest 63 1 (contains (bitAnd left (left - 1))) → Looked (bitAnd left (left - 1)) best n
     passed-over k n e =
         record {
           next = e;
@@ -209,11 +210,11 @@ module _ (co : Common) (s : Sources) (targets : ℕ → ℕ) (h th : ℕ) where
           even = part-even;
         }
       where
-        at : (j : ℕ) → Seen j → 0 < j → j < 64 → marks waits j ≡ true → hartIndex (targets j) ≡ h → best ≤ keyOf j (targets j)
+        at : (j : ℕ) → Seen j → 0 < j → j < 64 → contains waits j ≡ true → hartIndex (targets j) ≡ h → best ≤ keyOf j (targets j)
         at j (before f) a b w mj = p .least j a b w f mj
         at j (last q) a b w mj = subst (λ (x : ℕ). best ≤ keyOf x (targets x)) (sym q) (k (subst (λ (x : ℕ). hartIndex (targets x) ≡ h) q mj))
 
-    step : (r n : ℕ) → r ≡ betterOf h i (targets i) best → n ≡ lowest 63 1 (marks (bitAnd left (left - 1))) → Looked (bitAnd left (left - 1)) r n
+    step : (r n : ℕ) → r ≡ betterOf h i (targets i) best → n ≡ lowest 63 1 (contains (bitAnd left (left - 1))) → Looked (bitAnd left (left - 1)) r n
     unfolding betterOf
     step r n e f = subst (λ (x : ℕ). Looked (bitAnd left (left - 1)) x n) (sym e) (go (eqb (hartIndex (targets i)) h) refl (ltb (keyOf i (targets i)) best) refl)
       where
@@ -222,13 +223,13 @@ module _ (co : Common) (s : Sources) (targets : ℕ → ℕ) (h th : ℕ) where
         go true m false k = passed-over (λ x. ltb-false _ _ k) n f
         go false m b k = passed-over (λ x. absurd (eqb-false _ _ m x)) n f
 
-    pub looked-next : (r n left′ : ℕ) → r ≡ betterOf h i (targets i) best → left′ ≡ bitAnd left (left - 1) → n ≡ lowest 63 1 (marks left′) → Looked left′ r n
-    looked-next r n left′ e q f = subst (λ (x : ℕ). Looked x r n) (sym q) (step r n e (subst (λ (x : ℕ). n ≡ lowest 63 1 (marks x)) q f))
+    pub looked-next : (r n left′ : ℕ) → r ≡ betterOf h i (targets i) best → left′ ≡ bitAnd left (left - 1) → n ≡ lowest 63 1 (contains left′) → Looked left′ r n
+    looked-next r n left′ e q f = subst (λ (x : ℕ). Looked x r n) (sym q) (step r n e (subst (λ (x : ℕ). n ≡ lowest 63 1 (contains x)) q f))
 
   -- ---- after it
   module _ (left best i : ℕ) (p : Looked left best i) (l : 64 ≤ i) where
-    none-left : (j : ℕ) → 0 < j → j < 64 → marks left j ≡ false
-    none-left j a b = lowest-before 63 1 (marks left) j (omega arith) (omega (arith, p .next))
+    none-left : (j : ℕ) → 0 < j → j < 64 → contains left j ≡ false
+    none-left j a b = lowest-before 63 1 (contains left) j (omega arith) (omega (arith, p .next))
 
     -- no lower key leads
     above : (k : ℕ) → Lead k → best ≤ k

@@ -4,7 +4,7 @@ use mathlib.Core.Bool.{Bool, true, false, _&&_}
 use lib.Dec.{ltb}
 use Rattle.memory.specs.Bits.{bit, bits}
 use Rattle.memory.specs.Choice.{pick}
-use Rattle.word.specs.Word.{inside, half, chosen, only, digit, lowest}
+use Rattle.word.specs.Word.{isSource, half, chosen, only, digit, lowest}
 use Rattle.register.specs.declared.BitRegister.{BitRegister}
 use Rattle.register.specs.declared.BitRegister.the-variants.{SetIp, SetIpNum, InClrIp, ClrIpNum, SetIe, SetIeNum, ClrIe, ClrIeNum}
 use Rattle.register.specs.declared.Register.{Register}
@@ -26,7 +26,7 @@ wireTable n level t = act (only n) (sensed (t .delivery) level) t
 
 -- "A wire number outside 1 to 63 is refused with 2014; nothing changes" (02)
 unfoldable pub wireRefusal : ℕ → ℕ
-wireRefusal n = pick (inside n) 0 2014
+wireRefusal n = pick (isSource n) 0 2014
 
 -- ---- a write of v
 -- to a register of bits: which sources it concerns, by mask or by number

@@ -4,7 +4,7 @@ use mathlib.Core.Bool.{Bool, true, false, not, _&&_, _||_}
 use lib.Dec.{eqb, ltb}
 use Rattle.memory.specs.Bits.{bits}
 use Rattle.memory.specs.Choice.{pick}
-use Rattle.word.specs.Word.{inside, only, digit, lowest}
+use Rattle.word.specs.Word.{isSource, only, digit, lowest}
 use Rattle.register.specs.declared.HartRegister.{HartRegister}
 use Rattle.register.specs.declared.HartRegister.the-variants.{IDelivery, IForce, IThreshold, TopI}
 use Rattle.register.specs.declared.Idc.{Idc}
@@ -17,8 +17,8 @@ use Rattle.source.specs.Source.{handed, directOf}
 use Rattle.source.specs.Table.{Table, act}
 
 -- harts are 0 to 15 and have a record in direct delivery: "a target's hart index above 15 .. reaches no hart", "in message mode hart registers read zero and ignore writes" (02)
-unfoldable pub reaches : ℕ → Table → Bool
-reaches h t = ltb h 16 && directOf (t .delivery)
+unfoldable pub serves : ℕ → Table → Bool
+serves h t = ltb h 16 && directOf (t .delivery)
 
 -- with another record for hart h
 unfoldable pub withHart : ℕ → Hart → Table → Table
@@ -32,7 +32,7 @@ contributes h threshold s = (s .pending && s .enable) && (eqb (hartIndex (s .tar
 
 -- k is the key of a source that contributes
 unfoldable pub leads : ℕ → ℕ → Table → ℕ → Bool
-leads h threshold t k = inside (k % 64) && (contributes h threshold (t .row (k % 64)) && eqb (keyOf (k % 64) (t .row (k % 64) .target)) k)
+leads h threshold t k = isSource (k % 64) && (contributes h threshold (t .row (k % 64)) && eqb (keyOf (k % 64) (t .row (k % 64) .target)) k)
 
 -- the lowest such key as topi tells it
 unfoldable pub topAt : ℕ → ℕ → Table → ℕ
@@ -40,7 +40,7 @@ topAt h threshold t = topWord (lowest keys 0 (leads h threshold t))
 
 -- topi of hart h under a threshold
 unfoldable pub topi : ℕ → ℕ → Table → ℕ
-topi h threshold t = pick (reaches h t) (topAt h threshold t) 0
+topi h threshold t = pick (serves h t) (topAt h threshold t) 0
 
 -- ---- a claim (4.1.8.1.5)
 -- "Register claimi has the same value as topi. When this value is not zero, reading claimi has the simultaneous side effect of clearing the pending bit for the
@@ -50,18 +50,18 @@ claimTable h threshold t = pick (eqb (topi h threshold t) 0) t (act (only (bits 
 
 -- and to its record x
 unfoldable pub claimHart : ℕ → Hart → Table → Hart
-claimHart h x t = pick (reaches h t) (pick (eqb (topi h (x .threshold) t) 0) (unforced x) x) x
+claimHart h x t = pick (serves h t) (pick (eqb (topi h (x .threshold) t) 0) (unforced x) x) x
 
 -- a claim by hart h with the record that the table has for it
 unfoldable pub claimed : ℕ → Table → Table
-claimed h t = pick (reaches h t) (withHart h (claimHart h (t .hart h) t) (claimTable h (t .hart h .threshold) t)) t
+claimed h t = pick (serves h t) (withHart h (claimHart h (t .hart h) t) (claimTable h (t .hart h .threshold) t)) t
 
 unfoldable pub claimValue : ℕ → Table → ℕ
 claimValue h t = topi h (t .hart h .threshold) t
 
 -- ---- the other registers of a hart
 unfoldable pub writeHart : ℕ → HartRegister → ℕ → Table → Table
-writeHart h k v t = pick (reaches h t) (withHart h (wroteOf k v (t .hart h)) t) t
+writeHart h k v t = pick (serves h t) (withHart h (wroteOf k v (t .hart h)) t) t
 
 -- what a register of the record x tells, where topi is w
 unfoldable pub tells : HartRegister → Hart → ℕ → ℕ
@@ -71,7 +71,7 @@ tells IThreshold x w = x .threshold
 tells TopI x w = w
 
 unfoldable pub readHart : ℕ → HartRegister → Table → ℕ
-readHart h k t = pick (reaches h t) (tells k (t .hart h) (topAt h (t .hart h .threshold) t)) 0
+readHart h k t = pick (serves h t) (tells k (t .hart h) (topAt h (t .hart h .threshold) t)) 0
 
 -- ---- what is in the IDC structures (4.1.8.1)
 -- "Writes to topi are ignored" is in `wroteOf`; "Writes to claimi are ignored"
@@ -104,4 +104,4 @@ claims d Reserved = false
 -- ---- the signal (4.1.8.2)
 -- "When domaincfg.IE = 1 and interrupt delivery is enabled (idelivery = 1), the interrupt signal is asserted whenever either register iforce or topi is not zero"; else it "is held de-asserted"
 unfoldable pub signalled : ℕ → Table → Bool
-signalled h t = reaches h t && ((t .enable && t .hart h .delivery) && (t .hart h .force || not (eqb (claimValue h t) 0)))
+signalled h t = serves h t && ((t .enable && t .hart h .delivery) && (t .hart h .force || not (eqb (claimValue h t) 0)))

@@ -3,12 +3,12 @@ use Prim.Native.Nat.{ℕ}
 use mathlib.Core.List.{List, [], _∷_}
 use mathlib.Core.Path.{_≡_, refl}
 use lib.ListN.{replicate}
-use Rattle.word.specs.Word.{marks, wordOf, lowest, chosen, only}
+use Rattle.word.specs.Word.{contains, wordOf, lowest, chosen, only}
 use Rattle.register.specs.Register.{pendingRegister, enableRegister, registerOf, idcOf}
 use Rattle.hart.specs.Hart.{hartRefusal, wroteOf, unforced, passes, topWord}
 use Rattle.source.specs.declared.Delivery.the-variants.{Direct, Message}
 use Rattle.source.specs.Source.{sensed, raised, lowered, handed, allowed, configured, aimed}
-use Rattle.aplic.specs.Direct.{reaches, withHart, contributes, leads, topAt, topi, claimTable, claimHart, claimed, claimValue, writeHart, writeIdc, readIdc, claimedBy, signalled}
+use Rattle.aplic.specs.Direct.{serves, withHart, contributes, leads, topAt, topi, claimTable, claimHart, claimed, claimValue, writeHart, writeIdc, readIdc, claimedBy, signalled}
 use Rattle.aplic.specs.Calls.{afterRead, wireTable, wireRefusal, writeTable, writeRegister, enabledBy, concerned, change, forwardTable, sentOf, sends, topOf, readTable, readRegister, readBits}
 use Rattle.aplic_run.specs.Words.{callOf, lateCall, runnable, answered}
 
@@ -26,7 +26,7 @@ nine-run = refl
 
 -- 36 words of answers; the last two of the buffer stay
 pub nine-answered : answered Message calls (replicate 38 9) 9 ≡ words
-unfolding answered callOf lateCall marks wordOf lowest chosen only pendingRegister enableRegister registerOf sensed raised lowered handed allowed configured aimed wireTable wireRefusal writeTable writeRegister enabledBy concerned change forwardTable sentOf sends topOf readTable readRegister readBits
+unfolding answered callOf lateCall contains wordOf lowest chosen only pendingRegister enableRegister registerOf sensed raised lowered handed allowed configured aimed wireTable wireRefusal writeTable writeRegister enabledBy concerned change forwardTable sentOf sends topOf readTable readRegister readBits
 nine-answered = refl
 
 -- a buffer with room for one answer alone
@@ -44,5 +44,5 @@ abbrev pub direct-words : List ℕ
 direct-words = 1 ∷ 0 ∷ 0 ∷ 0 ∷ 1 ∷ 0 ∷ 0 ∷ 0 ∷ 1 ∷ 0 ∷ 0 ∷ 0 ∷ 1 ∷ 0 ∷ 0 ∷ 0 ∷ 1 ∷ 0 ∷ 0 ∷ 0 ∷ 1 ∷ 0 ∷ 0 ∷ 0 ∷ 1 ∷ 0 ∷ 0 ∷ 0 ∷ 0 ∷ 0 ∷ 0 ∷ 0 ∷ 0 ∷ 0 ∷ 0 ∷ 0 ∷ 6 ∷ 0 ∷ 0 ∷ 0 ∷ 1 ∷ 0 ∷ 0 ∷ 0 ∷ 6 ∷ 0 ∷ 1 ∷ 0 ∷ 5 ∷ 0 ∷ 0x10001 ∷ 0 ∷ 5 ∷ 0 ∷ 0x20001 ∷ 0 ∷ 5 ∷ 0 ∷ 0x20001 ∷ 0 ∷ 5 ∷ 2014 ∷ 0 ∷ 0 ∷ 3 ∷ 0 ∷ 0 ∷ 0 ∷ 2 ∷ 0xc0001 ∷ 0 ∷ 0 ∷ []
 
 pub direct-answered : answered Direct direct-calls (replicate 72 9) 18 ≡ direct-words
-unfolding answered callOf lateCall marks wordOf lowest chosen only pendingRegister enableRegister registerOf idcOf hartRefusal wroteOf unforced passes topWord sensed raised lowered handed allowed configured aimed reaches withHart contributes leads topAt topi claimTable claimHart claimed claimValue writeHart writeIdc readIdc signalled wireTable wireRefusal writeTable writeRegister enabledBy concerned change forwardTable sentOf sends topOf readTable readRegister readBits claimedBy afterRead
+unfolding answered callOf lateCall contains wordOf lowest chosen only pendingRegister enableRegister registerOf idcOf hartRefusal wroteOf unforced passes topWord sensed raised lowered handed allowed configured aimed serves withHart contributes leads topAt topi claimTable claimHart claimed claimValue writeHart writeIdc readIdc signalled wireTable wireRefusal writeTable writeRegister enabledBy concerned change forwardTable sentOf sends topOf readTable readRegister readBits claimedBy afterRead
 direct-answered = refl

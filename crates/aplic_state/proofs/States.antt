@@ -13,8 +13,9 @@ use lib.Seq.{getD-set-same, getD-set-other}
 use Rattle.memory.specs.Bits.{bits}
 use Rattle.memory.specs.Choice.{pick}
 use Rattle.memory.proofs.Choices.{pick-same, yes-is, no-is}
-use Rattle.word.specs.Word.{marks, inside, only, digit, lowest}
-use Rattle.word.proofs.Bits.{never, and-true, within, zero-digit}
+use Rattle.word.specs.Word.{contains, isSource, only, digit, lowest}
+use Rattle.memory.proofs.Truth.{and-true}
+use Rattle.word.proofs.Bits.{never, within, zero-digit}
 use Rattle.register.specs.declared.BitRegister.{BitRegister}
 use Rattle.register.specs.declared.HartRegister.{HartRegister}
 use Rattle.register.specs.declared.HartRegister.the-variants.{IDelivery, IForce, IThreshold, TopI}
@@ -38,13 +39,13 @@ use Rattle.sources.specs.Sources.{sourceOf, tableWith, Acts, lined, firstWaitin
 use Rattle.aplic.specs.declared.Msi.{Msi}
 use Rattle.aplic.specs.declared.Sent.{Sent}
 use Rattle.aplic.specs.declared.Sent.the-variants.{Idle, Forwarded}
-use Rattle.aplic.specs.Direct.{reaches, withHart, topAt, topi, claimTable, claimHart, claimed, claimValue, writeHart, readHart, ignoresIdc, claims, signalled}
+use Rattle.aplic.specs.Direct.{serves, withHart, topAt, topi, claimTable, claimHart, claimed, claimValue, writeHart, readHart, ignoresIdc, claims, signalled}
 use Rattle.aplic.specs.Calls.{wireTable, concerned, change, enabledBy, writeRegister, ignoresRegister, ignores, readBits, readRegister, domainWord, forwardTable, sends, sentOf, msiOf}
 use Rattle.aplic.specs.Domain.{Shows}
 use Rattle.aplic.proofs.Tables.{same-table, acts-ext, handed-is, acts-table, row-at, configured-table, aimed-table, wired-table, written, told, none-sent, none-waits, kept-table, kept-sent, forwarded-table, forwarded-sent}
 use Rattle.aplic.proofs.Tops.{Looked, looked-first, looked-next, looked-some, looked-less, looked-done}
-use Rattle.aplic.proofs.Claims.{with-own, reach-yes, reach-mode, unreached-claim, unreached-value, unreached-write, unreached-read, unreached-signal}
-use Rattle.aplic.proofs.Claims.{top-reached, nothing-table, nothing-hart, taken-hart, taken-table, claimed-by, wrote-is, tells-delivery, tells-force, tells-threshold, tells-top, table-forced, table-top, table-off}
+use Rattle.aplic.proofs.Claims.{with-own, serve-yes, serve-mode, unserved-claim, unserved-value, unserved-write, unserved-read, unserved-signal}
+use Rattle.aplic.proofs.Claims.{top-served, nothing-table, nothing-hart, taken-hart, taken-table, claimed-by, wrote-is, tells-delivery, tells-force, tells-threshold, tells-top, table-forced, table-top, table-off}
 use Rattle.aplic.proofs.Domains.{not-on, not-off}
 use Rattle.aplic_state.specs.State.{enableIn, sourcesIn, deliveryIn, targetIn, recordIn, commonIn, tableIn, modeWord, madeOf, withSources}
 
@@ -193,9 +194,9 @@ module _ (ws : List ℕ) (h : ℕ) (y : Hart) (long : 87 ≤ length ws) (below :
   unfolding tableIn tableWith withHart
   hart-put =
       let w = words-set ws (71 + h) (keptOf y) (omega arith) in
-      same-table _ _ _ _ _ _ _ _ mode-kept (w .1) (fun-ext hart-set) (λ i. go i (inside i) refl (w .0))
+      same-table _ _ _ _ _ _ _ _ mode-kept (w .1) (fun-ext hart-set) (λ i. go i (isSource i) refl (w .0))
     where
-      go : (i : ℕ) (b : Bool) → inside i ≡ b → sourcesIn put ≡ sourcesIn ws → pick b (sourceOf (sourcesIn put) i (targetIn put i)) quiet ≡ pick b (sourceOf (sourcesIn ws) i (targetIn ws i)) quiet
+      go : (i : ℕ) (b : Bool) → isSource i ≡ b → sourcesIn put ≡ sourcesIn ws → pick b (sourceOf (sourcesIn put) i (targetIn put i)) quiet ≡ pick b (sourceOf (sourcesIn ws) i (targetIn ws i)) quiet
       go i true k e = ap₂ (λ (x : Sources) (t : ℕ). sourceOf x i t) e (row-kept i (within i k .1))
       go i false k e = refl
 
@@ -251,11 +252,11 @@ module _ (ws : List ℕ) (long : 87 ≤ length ws) (s : Sources) (hs : s ≡ sou
       ap tableIn e ∙ table-put ws r long ∙ acts-table (commonIn ws) s r (targetIn ws) sel f a ∙ ap (λ (x : Sources). act sel f (tableWith (commonIn ws) x (targetIn ws))) hs
 
   -- a wire
-  pub wire-goes : (d : Delivery) (n mask : ℕ) (level : Bool) (r : Sources) (out : List ℕ) → d ≡ deliveryIn ws → ((i : ℕ) → inside i ≡ true → marks mask i ≡ only n i) → Acts (marks mask) (sensed d level) s r
+  pub wire-goes : (d : Delivery) (n mask : ℕ) (level : Bool) (r : Sources) (out : List ℕ) → d ≡ deliveryIn ws → ((i : ℕ) → isSource i ≡ true → contains mask i ≡ only n i) → Acts (contains mask) (sensed d level) s r
       → out ≡ withSources ws r → tableIn out ≡ wireTable n level (tableIn ws)
   unfolding tableIn
   wire-goes d n mask level r out hd h a e =
-      ap tableIn e ∙ table-put ws r long ∙ wired-table (commonIn ws) s (targetIn ws) n level mask r h (subst (λ (m : Delivery). Acts (marks mask) (sensed m level) s r) hd a) ∙ ap (λ (x : Sources). wireTable n level (tableWith (commonIn ws) x (targetIn ws))) hs
+      ap tableIn e ∙ table-put ws r long ∙ wired-table (commonIn ws) s (targetIn ws) n level mask r h (subst (λ (m : Delivery). Acts (contains mask) (sensed m level) s r) hd a) ∙ ap (λ (x : Sources). wireTable n level (tableWith (commonIn ws) x (targetIn ws))) hs
 
   -- one source
   module _ (n v t : ℕ) (x y : Source) (from : 0 < n) (below : n < 64) (ht : t ≡ targetIn ws n) (hy : y ≡ sourceOf s n t) where
@@ -316,12 +317,12 @@ module _ (ws : List ℕ) (long : 87 ≤ length ws) (s : Sources) (hs : s ≡ sou
     unfolding tableIn
     forward-none l = none-waits (commonIn ws) (sourcesIn ws) (targetIn ws) n top l
 
-    pub forward-goes : (d : Delivery) (ie b : Bool) (mask : ℕ) (r : Sources) (out : List ℕ) → d ≡ deliveryIn ws → ie ≡ enableIn ws → b ≡ directOf d → ie && not b ≡ true → n < 64 → ((i : ℕ) → inside i ≡ true → marks mask i ≡ only n i) → Acts (marks mask) (lowered d) s r → out ≡ withSources ws r
+    pub forward-goes : (d : Delivery) (ie b : Bool) (mask : ℕ) (r : Sources) (out : List ℕ) → d ≡ deliveryIn ws → ie ≡ enableIn ws → b ≡ directOf d → ie && not b ≡ true → n < 64 → ((i : ℕ) → isSource i ≡ true → contains mask i ≡ only n i) → Acts (contains mask) (lowered d) s r → out ≡ withSources ws r
         → tableIn out ≡ forwardTable (tableIn ws)
     unfolding tableIn
     forward-goes d ie b mask r out hd hi hb e l h a ho =
         ap tableIn ho ∙ table-put ws r long
-        ∙ forwarded-table (commonIn ws) s (targetIn ws) n hn b (hb ∙ ap directOf hd) (ap (λ (x : Bool). x && not b) (sym hi) ∙ e) l mask r h (subst (λ (m : Delivery). Acts (marks mask) (lowered m) s r) hd a)
+        ∙ forwarded-table (commonIn ws) s (targetIn ws) n hn b (hb ∙ ap directOf hd) (ap (λ (x : Bool). x && not b) (sym hi) ∙ e) l mask r h (subst (λ (m : Delivery). Acts (contains mask) (lowered m) s r) hd a)
         ∙ ap (λ (x : Sources). forwardTable (tableWith (commonIn ws) x (targetIn ws))) hs
 
     pub forward-sends : (d : Delivery) (ie b : Bool) (t : ℕ) (m : Msi) → d ≡ deliveryIn ws → ie ≡ enableIn ws → b ≡ directOf d → ie && not b ≡ true → n < 64 → t ≡ targetIn ws n → m ≡ msiOf t → Forwarded m ≡ sentOf (tableIn ws)
@@ -381,7 +382,7 @@ pub write-domain : (ws : List ℕ) (o v : ℕ) (g : Register) → 87 ≤ length 
 unfolding writeRegister enabledBy tableIn tableWith enableIn sourcesIn targetIn deliveryIn
 write-domain [] o v g l p q = absurd (omega arith)
 write-domain (w ∷ ws) o v g l p q =
-    written o v g p DomainCfg (tableIn (w ∷ ws)) _ q (same-table _ _ _ _ _ _ _ _ refl (ap (λ (x : ℕ). eqb x 1) twice) (same-records (v / 256 % 2 ∷ ws) (w ∷ ws) (λ h k. getD-set-other (w ∷ ws) 0 (71 + h) (v / 256 % 2) 0 (λ e. omega arith))) (λ i. ap (λ (x : ℕ). pick (inside i) (sourceOf (sourcesIn (w ∷ ws)) i x) quiet) (kept i)))
+    written o v g p DomainCfg (tableIn (w ∷ ws)) _ q (same-table _ _ _ _ _ _ _ _ refl (ap (λ (x : ℕ). eqb x 1) twice) (same-records (v / 256 % 2 ∷ ws) (w ∷ ws) (λ h k. getD-set-other (w ∷ ws) 0 (71 + h) (v / 256 % 2) 0 (λ e. omega arith))) (λ i. ap (λ (x : ℕ). pick (isSource i) (sourceOf (sourcesIn (w ∷ ws)) i x) quiet) (kept i)))
   where
     twice : v / 256 % 2 % 2 ≡ v / 256 % 2
     twice = omega arith
@@ -466,12 +467,12 @@ module _ (ws : List ℕ) where
   record-low h = record-small _
 
   -- the loop
-  pub top-first : (h th left best i : ℕ) → left ≡ bitAnd (getD ws 5 0) (getD ws 6 0) / 2 * 2 → best ≡ limitOf th → i ≡ lowest 63 1 (marks left) → Looked (commonIn ws) (sourcesIn ws) (targetIn ws) h th left best i
+  pub top-first : (h th left best i : ℕ) → left ≡ bitAnd (getD ws 5 0) (getD ws 6 0) / 2 * 2 → best ≡ limitOf th → i ≡ lowest 63 1 (contains left) → Looked (commonIn ws) (sourcesIn ws) (targetIn ws) h th left best i
   unfolding sourcesIn
   top-first h th left best i e = looked-first (commonIn ws) (sourcesIn ws) (targetIn ws) h th left best i e
 
   module _ (h th left best i : ℕ) (p : Looked (commonIn ws) (sourcesIn ws) (targetIn ws) h th left best i) where
-    pub top-next : (r n t left′ : ℕ) → i < 64 → t ≡ targetIn ws i → r ≡ betterOf h i t best → left′ ≡ bitAnd left (left - 1) → n ≡ lowest 63 1 (marks left′)
+    pub top-next : (r n t left′ : ℕ) → i < 64 → t ≡ targetIn ws i → r ≡ betterOf h i t best → left′ ≡ bitAnd left (left - 1) → n ≡ lowest 63 1 (contains left′)
         → Looked (commonIn ws) (sourcesIn ws) (targetIn ws) h th left′ r n
     top-next r n t left′ l ht hr = looked-next (commonIn ws) (sourcesIn ws) (targetIn ws) h th left best i p l r n left′ (hr ∙ ap (λ (x : ℕ). betterOf h i x best) ht)
 
@@ -494,23 +495,23 @@ module _ (ws : List ℕ) where
     not-message xs ys e f = absurd (never (sym f ∙ sym (hb ∙ ap directOf hd) ∙ e))
 
     module _ (h : ℕ) (below : h < 16) where
-      there : b ≡ true → reaches h (tableIn ws) ≡ true
-      there e = reach-yes (tableIn ws) h b below mode-is e
+      there : b ≡ true → serves h (tableIn ws) ≡ true
+      there e = serve-yes (tableIn ws) h b below mode-is e
 
-      not-there : b ≡ false → reaches h (tableIn ws) ≡ false
-      not-there e = reach-mode (tableIn ws) h b mode-is e
+      not-there : b ≡ false → serves h (tableIn ws) ≡ false
+      not-there e = serve-mode (tableIn ws) h b mode-is e
 
       pub hart-ignored : (k : HartRegister) (v : ℕ) → b ≡ false → tableIn ws ≡ writeHart h k v (tableIn ws)
-      hart-ignored k v e = unreached-write (tableIn ws) h (not-there e) k v
+      hart-ignored k v e = unserved-write (tableIn ws) h (not-there e) k v
 
       pub hart-silent : (k : HartRegister) → b ≡ false → 0 ≡ readHart h k (tableIn ws)
-      hart-silent k e = unreached-read (tableIn ws) h (not-there e) k
+      hart-silent k e = unserved-read (tableIn ws) h (not-there e) k
 
       pub claim-silent : b ≡ false → 0 ≡ claimValue h (tableIn ws)
-      claim-silent e = unreached-value (tableIn ws) h (not-there e)
+      claim-silent e = unserved-value (tableIn ws) h (not-there e)
 
       pub claim-ignored : b ≡ false → tableIn ws ≡ claimed h (tableIn ws)
-      claim-ignored e = unreached-claim (tableIn ws) h (not-there e)
+      claim-ignored e = unserved-claim (tableIn ws) h (not-there e)
 
       module _ (x : Hart) (hx : x ≡ recordIn ws h) where
         own : x ≡ tableIn ws .hart h
@@ -539,7 +540,7 @@ module _ (ws : List ℕ) where
         module _ (e : b ≡ true) (v : ℕ) (hv : v ≡ topAt h (x .threshold) (tableIn ws)) where
           pub claim-value : v ≡ claimValue h (tableIn ws)
           unfolding claimValue
-          claim-value = top-reached (tableIn ws) h (there e) x v hv ∙ ap (λ (z : Hart). topi h (z .threshold) (tableIn ws)) own
+          claim-value = top-served (tableIn ws) h (there e) x v hv ∙ ap (λ (z : Hart). topi h (z .threshold) (tableIn ws)) own
 
           pub claim-zero : v ≡ 0 → 0 ≡ claimValue h (tableIn ws)
           claim-zero n = sym n ∙ claim-value
@@ -555,11 +556,11 @@ module _ (ws : List ℕ) where
               ap tableIn ho ∙ hart-put ws h y long below (rw hy low)
               ∙ whole y (tableIn ws) (nothing-hart (tableIn ws) h (there e) x v hv n y hy) (nothing-table (tableIn ws) h (there e) x v hv n)
 
-          pub claim-took : (mask : ℕ) (s r : Sources) (out : List ℕ) → (v ≡ 0 → ⊥) → 87 ≤ length ws → s ≡ sourcesIn ws → ((i : ℕ) → inside i ≡ true → marks mask i ≡ only (v / 0x1_0000 % 1024) i)
-              → Acts (marks mask) (lowered d) s r → out ≡ withSources ws r → tableIn out ≡ claimed h (tableIn ws)
+          pub claim-took : (mask : ℕ) (s r : Sources) (out : List ℕ) → (v ≡ 0 → ⊥) → 87 ≤ length ws → s ≡ sourcesIn ws → ((i : ℕ) → isSource i ≡ true → contains mask i ≡ only (v / 0x1_0000 % 1024) i)
+              → Acts (contains mask) (lowered d) s r → out ≡ withSources ws r → tableIn out ≡ claimed h (tableIn ws)
           claim-took mask s r out n long hs m a ho =
               let u : tableIn out ≡ act (only (v / 0x1_0000 % 1024)) (handed (tableIn ws .delivery)) (tableIn ws) =
-              put-all ws long s hs (lowered d) (only (v / 0x1_0000 % 1024)) r out (acts-ext (marks mask) (only (v / 0x1_0000 % 1024)) (lowered d) s r m a) ho
+              put-all ws long s hs (lowered d) (only (v / 0x1_0000 % 1024)) r out (acts-ext (contains mask) (only (v / 0x1_0000 % 1024)) (lowered d) s r m a) ho
               ∙ ap (λ (f : Source → Source). act (only (v / 0x1_0000 % 1024)) f (tableIn ws)) (handed-is d ∙ ap handed (hd ∙ mode-there)) in
               sym (with-own (tableIn out) h)
               ∙ whole (tableIn out .hart h) (tableIn out) (ap (λ (t : Table). t .hart h) u ∙ sym own ∙ taken-hart (tableIn ws) h (there e) x v hv n)
@@ -585,7 +586,7 @@ module _ (ws : List ℕ) where
             where
               go : (z : Bool) → b ≡ z → z && (ie && x .delivery) ≡ false → false ≡ signalled h (tableIn ws)
               go true p q = table-off (tableIn ws) h (there p) x own (sym on-there ∙ q)
-              go false p q = unreached-signal (tableIn ws) h (not-there p)
+              go false p q = unserved-signal (tableIn ws) h (not-there p)
 
 pub ruleset tops = (top-first, top-next, top-some, top-less, top-done)
 
@@ -632,12 +633,12 @@ module _ (d : Delivery) (n : ℕ) (long : 87 ≤ n) where
 
   pub made-start : tableIn (madeOf d n) ≡ startOf d
   unfolding tableIn tableWith sourceOf enableIn sourcesIn targetIn
-  made-start = same-table _ _ _ _ _ _ _ _ made-mode (rw (made-else 0 (λ e. omega arith))) (fun-ext made-rests) (λ i. go i (inside i) refl)
+  made-start = same-table _ _ _ _ _ _ _ _ made-mode (rw (made-else 0 (λ e. omega arith))) (fun-ext made-rests) (λ i. go i (isSource i) refl)
     where
       at : (i : ℕ) → 0 < i → _≡_ {A = ℕ} (getD (madeOf d n) (7 + i) 0) 0
       at i l = made-else (7 + i) (λ e. omega arith)
 
-      go : (i : ℕ) (b : Bool) → inside i ≡ b → pick b (sourceOf (sourcesIn (madeOf d n)) i (targetIn (madeOf d n) i)) quiet ≡ quiet
+      go : (i : ℕ) (b : Bool) → isSource i ≡ b → pick b (sourceOf (sourcesIn (madeOf d n)) i (targetIn (madeOf d n) i)) quiet ≡ quiet
       go i true k =
           rw (made-else 1 (λ e. omega arith), made-else 2 (λ e. omega arith), made-else 3 (λ e. omega arith), made-else 4 (λ e. omega arith), made-else 5 (λ e. omega arith), made-else 6 (λ e. omega arith), at i (within i k .0), zero-digit i)
       go i false k = refl

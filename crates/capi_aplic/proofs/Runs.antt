@@ -17,7 +17,7 @@ use Rattle.aplic.specs.Calls.{wireTable, wireRefusal}
 use Rattle.aplic.specs.Direct.{claimed, claimValue, signalled}
 use Rattle.aplic.specs.Run.{Call, Answer, refusal, value, sent, took, asserted, answer, after, answers, afterAll, Ran, end, next}
 use Rattle.aplic.proofs.Tables.{unwired-table}
-use Rattle.aplic.proofs.Claims.{reach-refused, unreached-claim, unreached-value, unreached-signal}
+use Rattle.aplic.proofs.Claims.{serve-refused, unserved-claim, unserved-value, unserved-signal}
 use Rattle.aplic.proofs.Runs.{run-claim}
 use Rattle.aplic_state.specs.State.{madeOf, tableIn}
 use Rattle.aplic_state.proofs.States.{made-start}
@@ -68,12 +68,12 @@ module _ (out told : List ℕ) (h : ℕ) (t : Table) (room : 1 ≤ length out) w
   took-under : (r : ℕ) → r ≡ hartRefusal h → told ≡ underStatus r out (set out 0 (claimValue h t)) → underStatus r 0 (getD told 0 0) ≡ claimValue h t
   unfolding underStatus
   took-under zero e q = ap (λ (k : List ℕ). getD k 0 0) q ∙ set-there out _ room
-  took-under (suc r) e q = unreached-value t h (reach-refused t h (suc r) e (λ z. omega (arith, z)))
+  took-under (suc r) e q = unserved-value t h (serve-refused t h (suc r) e (λ z. omega (arith, z)))
 
   claimed-under : (r : ℕ) → r ≡ hartRefusal h → underStatus r t (claimed h t) ≡ claimed h t
   unfolding underStatus
   claimed-under zero e = refl
-  claimed-under (suc r) e = unreached-claim t h (reach-refused t h (suc r) e (λ z. omega (arith, z)))
+  claimed-under (suc r) e = unserved-claim t h (serve-refused t h (suc r) e (λ z. omega (arith, z)))
 
   flag-back : (b : Bool) → not (eqb (digit b) 0) ≡ b
   flag-back true = refl
@@ -82,7 +82,7 @@ module _ (out told : List ℕ) (h : ℕ) (t : Table) (room : 1 ≤ length out) w
   signalled-under : (r : ℕ) → r ≡ hartRefusal h → told ≡ underStatus r out (set out 0 (digit (signalled h t))) → underStatus r false (not (eqb (getD told 0 0) 0)) ≡ signalled h t
   unfolding underStatus
   signalled-under zero e q = ap (λ (k : List ℕ). not (eqb (getD k 0 0) 0)) q ∙ ap (λ (n : ℕ). not (eqb n 0)) (set-there out _ room) ∙ flag-back (signalled h t)
-  signalled-under (suc r) e q = unreached-signal t h (reach-refused t h (suc r) e (λ z. omega (arith, z)))
+  signalled-under (suc r) e q = unserved-signal t h (serve-refused t h (suc r) e (λ z. omega (arith, z)))
 
 one : {state left : List ℕ} {c : Call} {a : Answer} → 87 ≤ length state → Called state c a left → (a ≡ answer (tableIn state) c) × (tableIn left ≡ after (tableIn state) c)
 one {state} l (yasmurekh-aplic-wire source level r left told table) =

@@ -54,13 +54,8 @@ pub refused-none : {A : Type 0} (x y : A) → (_≡_ {A = ℕ} 0 0 → ⊥) → 
 refused-none x y h = absurd (h refl)
 
 -- ---- what is sent
-pub sent-idle : (out : List ℕ) (s : Sent) → s ≡ Idle → set (set (set (set out 0 0) 1 0) 2 0) 3 0 ≡ withSent out s
-unfolding withSent
-sent-idle out s e = rw e
-
-pub sent-message : (out : List ℕ) (s : Sent) (m : Msi) → s ≡ Forwarded m → set (set (set (set out 0 1) 1 (m .hart)) 2 (m .guest)) 3 (m .identity) ≡ withSent out s
-unfolding withSent
-sent-message out s m e = rw e
+pub sent-by : (out x : List ℕ) (s t : Sent) → s ≡ t → x ≡ withSent out t → x ≡ withSent out s
+sent-by out x s t e p = p ∙ ap (withSent out) (sym e)
 
 pub sent-told : (out x : List ℕ) (s t : Sent) → x ≡ withSent out s → s ≡ t → x ≡ underStatus 0 out (withSent out t)
 sent-told out x s t e p = left-done out (withSent out t) x (e ∙ ap (withSent out) p)
@@ -78,5 +73,3 @@ pub idle-kept : {A : Type 0} (x y : A) (s t : Sent) → s ≡ t → (s ≡ Idle 
 idle-kept x y s t e f h = f (e ∙ h)
 
 pub ruleset wired-ways = (state-short, state-long, left-short, left-done, left-by, left-refused, refused-by, refused-none)
-
-pub ruleset sent-ways = (sent-idle, sent-message)

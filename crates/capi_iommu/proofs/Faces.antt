@@ -1,13 +1,12 @@
 -- The face, by the tests that the code makes. Assumes nothing.
-use Prim.Native.Nat.{ℕ, _%_, _<_, _≤_}
+use Prim.Native.Nat.{ℕ, _<_, _≤_}
 use mathlib.Core.List.{List}
 use mathlib.Core.Path.{_≡_, sym, ap, _∙_}
 use lib.Dec.{leb}
 use lib.ListN.{length, set}
-use borrow.Author.Tests.{lt-ltb, le-ltb, ne-eqb}
+use borrow.Author.Tests.{lt-ltb, le-ltb}
 use Rattle.causes.specs.declared.Access.{Access}
 use Rattle.directory_process.specs.declared.ProcessId.{ProcessId}
-use Rattle.directory_process.specs.declared.ProcessId.the-variants.{Absent, Given}
 use Rattle.iommu.specs.declared.Answer.{Answer}
 use Rattle.iommu.specs.declared.Answer.the-variants.{Refused}
 use Rattle.iommu.specs.declared.Numbers.{Numbers}
@@ -18,14 +17,6 @@ use Rattle.capi_room.proofs.Rooms.{long-changed, room-ways}
 use Rattle.capi_iommu.specs.declared.Chosen.{Chosen}
 use Rattle.capi_iommu.specs.declared.Chosen.the-variants.{Known, Unknown}
 use Rattle.capi_iommu.specs.Face.{chosenOf, processOf, stageOf, withAnswer, chosenFace, chosenBytes, requestFace, afterFace}
-
-pub process-given : (flags p : ℕ) → flags % 2 ≡ 1 → Given p ≡ processOf flags p
-process-given flags p h = simp h
-
-pub process-absent : (flags p : ℕ) → (flags % 2 ≡ 1 → ⊥) → Absent ≡ processOf flags p
-process-absent flags p h = simp (ne-eqb (flags % 2) 1 h)
-
-pub ruleset process-ways = (process-given, process-absent)
 
 pub answer-put : (out : List ℕ) (a : Answer) (n : Numbers) (g : ℕ) → n ≡ numbersOf a → g ≡ stageOf a
     → set (set (set (set (set out 0 (n .kind)) 1 (n .first)) 2 (n .second)) 3 (n .third)) 4 g ≡ withAnswer out a

@@ -23,24 +23,24 @@ use Rattle.capi_room.specs.Room.{fitting}
 use Rattle.capi_room.proofs.Rooms.{long-changed}
 use Rattle.capi_iommu.specs.declared.Span.{Span}
 use Rattle.capi_iommu.specs.Face.{noPair, withPairs, withReport}
-use Rattle.capi_iommu.specs.Code.{spanOf, wordIn, pairIn, onesIn}
+use Rattle.capi_iommu.specs.Code.{spanOf, wordIn, pairIn, pendingOnes}
 
 -- the first k pairs are put, and their ones counted
 pub record Put (pair : ℕ → Pair) (before : List ℕ) (k count : ℕ) (out : List ℕ) : Type 0 where
   pub turns : k ≤ 32
   pub long : length out ≡ length before
   pub words : out ≡ withPairs before pair k
-  pub counts : count ≡ onesIn pair k
+  pub counts : count ≡ pendingOnes pair k
   pub small : count ≤ 64 * k
 
 pub none-put : (pair : ℕ → Pair) (before : List ℕ) → Put pair before 0 0 before
-unfolding withPairs onesIn
+unfolding withPairs pendingOnes
 none-put pair before = record { turns = omega arith; long = refl; words = refl; counts = refl; small = omega arith }
 
 module _ (bytes : List ℕ) (s : Span) (before : List ℕ) {k count : ℕ} {out : List ℕ} (p : Put (pairIn bytes s) before k count out) where
   pub one-more : (d e more : ℕ) → k < 32 → d ≡ wordIn bytes s (s .at + 16 * k) → e ≡ wordIn bytes s (s .at + 16 * k + 8) → more ≡ count + ones d → more ≤ count + 64
       → Put (pairIn bytes s) before (k + 1) more (set (set out (2 + 2 * k) d) (3 + 2 * k) e)
-  unfolding withPairs onesIn pairIn
+  unfolding withPairs pendingOnes pairIn
   one-more d e more h hd he hc hl =
       record {
         turns = omega arith;
@@ -50,14 +50,14 @@ module _ (bytes : List ℕ) (s : Span) (before : List ℕ) {k count : ℕ} {out 
         small = omega (arith, p .small);
       }
 
-  pub all-put : 32 ≤ k → (count ≡ onesIn (pairIn bytes s) 32) × (out ≡ withPairs before (pairIn bytes s) 32)
+  pub all-put : 32 ≤ k → (count ≡ pendingOnes (pairIn bytes s) 32) × (out ≡ withPairs before (pairIn bytes s) 32)
   all-put h =
       let z : k ≡ 32 = omega (arith, p .turns) in
-      (p .counts ∙ ap (onesIn (pairIn bytes s)) z, p .words ∙ ap (withPairs before (pairIn bytes s)) z)
+      (p .counts ∙ ap (pendingOnes (pairIn bytes s)) z, p .words ∙ ap (withPairs before (pairIn bytes s)) z)
 
 -- the pairs of a list that stand below its length are those of a function
-agree : (f g : ℕ → Pair) (out : List ℕ) (k : ℕ) → ((i : ℕ) → i < k → f i ≡ g i) → (withPairs out f k ≡ withPairs out g k) × (onesIn f k ≡ onesIn g k)
-unfolding withPairs onesIn
+agree : (f g : ℕ → Pair) (out : List ℕ) (k : ℕ) → ((i : ℕ) → i < k → f i ≡ g i) → (withPairs out f k ≡ withPairs out g k) × (pendingOnes f k ≡ pendingOnes g k)
+unfolding withPairs pendingOnes
 agree f g out zero h = (refl, refl)
 agree f g out (suc k) h =
     let r = agree f g out k (λ i l. h i (omega arith)) in
@@ -88,8 +88,8 @@ module _ (bytes : List ℕ) (at : ℕ) where
   unfolding pairIn
   in-span k h = simp (le-ltb (at + 512) (at + 16 * k + 8) (omega arith), le-ltb (at + 512) (at + 16 * k + 8 + 8) (omega arith))
 
-  counted : (k : ℕ) → onesIn (pairOf bytes at) k ≡ countOf bytes at k
-  unfolding onesIn countOf
+  counted : (k : ℕ) → pendingOnes (pairOf bytes at) k ≡ countOf bytes at k
+  unfolding pendingOnes countOf
   counted zero = refl
   counted (suc k) = rw (counted k)
 
@@ -98,14 +98,14 @@ outside : (bytes : List ℕ) (k : ℕ) → pairIn bytes (record { at = 0; end = 
 unfolding pairIn
 outside bytes k = simp (lt-ltb 0 (0 + 16 * k + 8) (omega arith), lt-ltb 0 (0 + 16 * k + 8 + 8) (omega arith))
 
-none-counted : (k : ℕ) → onesIn (λ i. noPair) k ≡ 0
-unfolding onesIn ones
+none-counted : (k : ℕ) → pendingOnes (λ i. noPair) k ≡ 0
+unfolding pendingOnes ones
 none-counted zero = refl
 none-counted (suc k) = rw (none-counted k)
 
 -- the words of a span are those of the report that its refusal's number gives
 by-number : (start : ℕ) (bytes : List ℕ) (file r : ℕ) (out : List ℕ)
-    → set (withPairs (set out 0 r) (pairIn bytes (spanOf start file r)) 32) 1 (onesIn (pairIn bytes (spanOf start file r)) 32)
+    → set (withPairs (set out 0 r) (pairIn bytes (spanOf start file r)) 32) 1 (pendingOnes (pairIn bytes (spanOf start file r)) 32)
     ≡ withReport out (unlessRefused r refusedReport (fileReport bytes (file - start)))
 by-number start bytes file zero out =
     let at = file - start in
@@ -119,7 +119,7 @@ by-number start bytes file (suc r) out =
 
 pub long-report : (n start : ℕ) (bytes : List ℕ) (file r : ℕ) (s : Span) (out before x : List ℕ) (c : ℕ)
     → n ≤ length out → r ≡ reportRefusal start (length bytes) file → s ≡ spanOf start file r
-    → c ≡ onesIn (pairIn bytes s) 32 → x ≡ withPairs (set out 0 r) (pairIn bytes s) 32
+    → c ≡ pendingOnes (pairIn bytes s) 32 → x ≡ withPairs (set out 0 r) (pairIn bytes s) 32
     → set x 1 c ≡ fitting n out before (withReport out (reportOf start bytes file))
 unfolding reportOf
 long-report n start bytes file r s out before x c l h e hc hx =
@@ -132,8 +132,6 @@ module _ (bytes : List ℕ) (s : Span) (i : ℕ) where
 
   pub word-held : (d : ℕ) → i + 8 ≤ s .end → d ≡ doubleword bytes i → d ≡ wordIn bytes s i
   word-held d h e = simp (e, le-ltb (s .end) (i + 8) h)
-
-pub ruleset word-ways = (word-past, word-held)
 
 pairs-length : (out : List ℕ) (f : ℕ → Pair) (k : ℕ) → length (withPairs out f k) ≡ length out
 unfolding withPairs

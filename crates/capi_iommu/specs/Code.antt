@@ -20,6 +20,6 @@ unfoldable pub pairIn : List ℕ → Span → ℕ → Pair
 pairIn bytes span k = record { pending = wordIn bytes span (span .at + 16 * k); enable = wordIn bytes span (span .at + 16 * k + 8) }
 
 -- the ones of the first k pairs' pending doublewords
-unfoldable pub onesIn : (ℕ → Pair) → ℕ → ℕ
-onesIn pair zero = 0
-onesIn pair (suc k) = onesIn pair k + ones (pair k .pending)
+unfoldable pub pendingOnes : (ℕ → Pair) → ℕ → ℕ
+pendingOnes pair zero = 0
+pendingOnes pair (suc k) = pendingOnes pair k + ones (pair k .pending)

@@ -11,7 +11,7 @@ ghost use Rattle.iommu_refusals.specs.Code.{Reportable};
 ghost use Rattle.iommu.specs.Files.{takeOf, afterTakeOf, reportOf};
 ghost use Rattle.capi_room.specs.Room.{status, fitting};
 ghost use Rattle.capi_iommu.specs.Face.{stageOf, withAnswer, withPairs, withReport, chosenOf, processOf, requestFace, afterFace};
-ghost use Rattle.capi_iommu.specs.Code.{spanOf, wordIn, pairIn, onesIn};
+ghost use Rattle.capi_iommu.specs.Code.{spanOf, wordIn, pairIn, pendingOnes};
 
 // An access that a number names.
 pub enum Chosen {
@@ -211,7 +211,7 @@ fn word_in(window: &[u8], span: Span, i: usize) -> u64
 // Puts the pairs of a span into the words of a buffer from the third on, and gives the ones of their pending doublewords. One loop for a file and for a refusal: a loop of zeros alone would become a call of memset.
 fn put_pairs(window: &[u8], span: Span, out: &mut [u64]) -> u64
     requires { ⌜ (span .end ≤ lengthOf (now window)) × (span .at ≤ span .end) × (66 ≤ lengthOf (now out)) ⌝ }
-    ensures count { λ r. ⌜ r ≡ onesIn (pairIn (now (window .entry)) span) 32 ⌝ }
+    ensures count { λ r. ⌜ r ≡ pendingOnes (pairIn (now (window .entry)) span) 32 ⌝ }
     ensures words { λ _. ⌜ now (out .exit) ≡ withPairs (now (out .entry)) (pairIn (now (window .entry)) span) 32 ⌝ }
 {
     let mut count: u64 = 0;

@@ -27,7 +27,7 @@ use Rattle.iommu.specs.Files.{takeOf, afterTakeOf}
 use Rattle.iommu.proofs.Files.{take-made, take-refused, take-cleared, take-kept}
 use Rattle.iommu.proofs.Requests.{record-stores, record-low, request-finishes}
 use Rattle.ledger.specs.Calls.{Op, request, take, Call, settings, answerOf, afterOf}
-use Rattle.ledger.specs.Ledger.{store, successfulTake, nothing, eventOf, requestEvent, takeEvent}
+use Rattle.ledger.specs.Ledger.{Event, store, successfulTake, nothing, eventOf, requestEvent, takeEvent}
 use Rattle.ledger.specs.Closes.{Storing, OneByte, noticeOf, noticesOf}
 
 pub no-way : _≡_ {A = ℕ} 0 1 → ⊥
@@ -50,6 +50,9 @@ finish-stores start len q value d (Outcome.Recorded n) e = go (storable q value)
     go true false h k z = absurd (no-way (cc))
     go false f h k z = absurd (no-way (cc))
 
+same-file : (start len f g : ℕ) → f ≡ g → isFile start len f ≡ true → isFile start len g ≡ true
+same-file start len f g e h = rw e at h
+
 module _ (start : ℕ) (bytes : List ℕ) (mode root : ℕ) (q : DeviceRequest) (value : ℕ) (d : Destination) where
   pub stored-storing : requestOf (settings start mode root) bytes q value ≡ Stored d → Storing start bytes mode root q value d
   unfolding requestOf
@@ -60,7 +63,7 @@ module _ (start : ℕ) (bytes : List ℕ) (mode root : ℕ) (q : DeviceRequest) 
           → Storing start bytes mode root q value d
       go zero h z =
           let f = finish-stores start (length bytes) q value d _ z in
-          record { unrefused = h; named = f .0; storing = f .1; within = f .2 }
+          record { unrefused = h; named = f .0; storing = f .1; within = same-file _ _ _ _ (omega arith) (f .2) }
       go (suc r) h z = absurd (no-way (cc))
 
   pub storing-stored : Storing start bytes mode root q value d → requestOf (settings start mode root) bytes q value ≡ Stored d
@@ -111,11 +114,11 @@ module _ (start : ℕ) (bytes : List ℕ) (file n : ℕ) where
 module _ (start : ℕ) (bytes : List ℕ) (file n : ℕ) where
   pub store-one-byte : OneByte start bytes (afterStore start bytes file n) file n
   unfolding afterStore
-  store-one-byte = record { long = length-after-store start bytes file n; others = λ i h. getD-set-other bytes _ i _ 0 h }
+  store-one-byte = record { long = length-after-store start bytes file n; others = λ i h. getD-set-other bytes _ i _ 0 (λ p. h (omega (arith, p))) }
 
   pub take-one-byte : OneByte start bytes (afterTake start bytes file n) file n
   unfolding afterTake
-  take-one-byte = record { long = length-after-take start bytes file n; others = λ i h. getD-set-other bytes _ i _ 0 h }
+  take-one-byte = record { long = length-after-take start bytes file n; others = λ i h. getD-set-other bytes _ i _ 0 (λ p. h (omega (arith, p))) }
 
 module _ (start : ℕ) (bytes : List ℕ) where
   pub stored-bytes : (mode root : ℕ) (q : DeviceRequest) (value : ℕ) (d : Destination) → requestOf (settings start mode root) bytes q value ≡ Stored d
@@ -155,6 +158,12 @@ module _ (start : ℕ) (bytes : List ℕ) where
       go zero h = let t = take-taken start bytes file n h in no-way (cc)
       go (suc k) h = let t = take-refused start bytes file n (suc k) (sym h) (λ z. omega arith) in no-way (cc)
 
+  -- how many stores an event is
+  abbrev stores : Event → ℕ
+  stores store = 1
+  stores successfulTake = 0
+  stores nothing = 0
+
   pub one-notice : (o : Op) (file n : ℕ) → eventOf file n (call o) ≡ store
       → noticesOf (numbersOf (answerOf start bytes o)) ≡ noticeOf (numbersOf (answerOf start bytes o)) ∷ []
   one-notice (request mode root q value) file n = go (requestOf (settings start mode root) bytes q value)
@@ -163,7 +172,7 @@ module _ (start : ℕ) (bytes : List ℕ) where
       go (Stored d) e = refl
       go (Translated a) e = absurd (no-way (cc))
       go (Redirected a) e = absurd (no-way (cc))
-      go Discarded e = absurd (no-way (cc))
+      go Discarded e = absurd (omega (arith, ap stores e))
       go (Fault f) e = absurd (no-way (cc))
       go (Refused r) e = absurd (no-way (cc))
       go (Taken w) e = absurd (no-way (cc))

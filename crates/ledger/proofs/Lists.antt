@@ -63,10 +63,13 @@ module _ (start : ℕ) (bytes : List ℕ) (ops : List Op) (file n : ℕ) (hf : i
   ledger = ledger-of (afterOf start) (callOf start) (Held start file) Any (λ bytes. pendingOf start bytes file n) (eventOf file n)
       (keeps start file n ln) bytes ops hf (no-premise start bytes ops)
 
+  same-bit : (xs : List ℕ) (m k : ℕ) → m ≡ k → pendingOf start xs file m ≡ pendingOf start xs file k
+  same-bit xs m k e = ap (pendingOf start xs file) e
+
   -- the pending bit after the list is the mark, and the account balances
   pub mark-is : pendingAfter start bytes ops file n ≡ accountAfter start bytes ops file n .mark
   mark-is =
-      ap (λ (xs : List ℕ). pendingOf start xs file n) (sym (bytes-final start bytes ops)) ∙ ledger .waits ∙ ap (λ (a : Account). a .mark) account-is
+      same-bit _ _ _ (omega arith) ∙ ap (λ (xs : List ℕ). pendingOf start xs file n) (sym (bytes-final start bytes ops)) ∙ ledger .waits ∙ ap (λ (a : Account). a .mark) account-is
 
   pub balance-is : pendingOf start bytes file n + accountAfter start bytes ops file n .stores
       ≡ accountAfter start bytes ops file n .takes + accountAfter start bytes ops file n .merged + pendingAfter start bytes ops file n

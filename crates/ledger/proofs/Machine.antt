@@ -27,7 +27,7 @@ opened-balanced b = record { sum = omega arith }
 -- one entry: the mark goes as the bit, and what was pending, and each store, was taken, or merged, or is pending
 pub entered-mark : (a : Account) (e : Event) → entered a e .mark ≡ step (a .mark) e
 entered-mark a store = refl
-entered-mark a successfulTake = refl
+entered-mark a successfulTake = omega arith
 entered-mark a nothing = refl
 
 pub entered-balanced : (b : ℕ) (a : Account) (e : Event) → Told (a .mark) e → Balanced b a → Balanced b (entered a e)

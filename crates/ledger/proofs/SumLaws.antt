@@ -52,7 +52,7 @@ file-zero = to-zero _ _ (λ n l. refl)
 -- each of the 2,048 counts once
 file-one : (i x : ℕ) → i < 2048 → ofFile (λ n. pick (eqb i n) x 0) ≡ x
 unfolding ofFile
-file-one i x l = one-to _ i x l
+file-one i x l = one-to _ i x (omega arith)
 
 one-file : (i x : ℕ) → i < 2048 → (b : Bool) → ofFile (λ n. pick (b && eqb i n) x 0) ≡ pick b x 0
 one-file i x l true = file-one i x l

@@ -9,7 +9,7 @@ use lib.Count.{ones, ones-cat, ones-le, trailingZeros, trailing-of-zero}
 use lib.Pow.{pow-pos, pow-add, pow-mono, split}
 use Rattle.message.specs.Recognition.{packed, extract}
 use Rattle.message.specs.declared.Packing.{Packing}
-use Rattle.message.specs.Code.{startOf, endOf, roundOf, Ready, beginning, rounds, Packs}
+use Rattle.message.specs.Code.{runStart, runEnd, roundOf, Ready, beginning, rounds, Packs}
 use Rattle.message.proofs.Runs.{parity, halved, packed-even, packed-odd, after, Lowest, lowest}
 
 -- no more than n bits are packed
@@ -46,7 +46,7 @@ packed-none (suc n) x = packed-none n (x / 2)
 record Partial (x mask left : ℕ) (p : Packing) : Type 0 where
   sum : p .number + 2 ^ p .used * packed 52 x (p .rest) ≡ extract x mask
   small : p .rest < 2 ^ 52
-  room : p .used ≤ startOf (p .rest)
+  room : p .used ≤ runStart (p .rest)
   few : ones (p .rest) ≤ left
 
 starts : (x mask : ℕ) → Partial x mask (ones mask) (beginning mask)
@@ -59,7 +59,7 @@ starts x mask =
       few = omega (arith, sym (ap ones (split mask 52)) ∙ ones-cat 52 (mask / 2 ^ 52) (mask % 2 ^ 52) (mod-lt mask (pow-pos 52)));
     }
 
-end-of-none : endOf 0 ≡ 64
+end-of-none : runEnd 0 ≡ 64
 unfolding trailingZeros
 end-of-none = refl
 
@@ -80,8 +80,8 @@ module _ {x mask left : ℕ} {p : Packing} (q : Partial x mask left p) where
   turns h =
       let l = run x (p .rest) (q .small) h in
       let r = l .0 in
-      let s = startOf (p .rest) in
-      let e = endOf (p .rest) in
+      let s = runStart (p .rest) in
+      let e = runEnd (p .rest) in
       let rest = packed 52 x (after (p .rest) s e) in
       let v = x / 2 ^ s % 2 ^ (e - s) in
       let run-sum : 2 ^ p .used * packed 52 x (p .rest) ≡ 2 ^ p .used * v + 2 ^ (p .used + (e - s)) * rest = ap (λ k. 2 ^ p .used * k) (r .packing) ∙ placed (p .used) (e - s) v rest in
@@ -95,9 +95,9 @@ module _ {x mask left : ℕ} {p : Packing} (q : Partial x mask left p) where
   -- where nothing is left a round changes nothing
   idles : p .rest ≡ 0 → Partial x mask (left - 1) (roundOf x p)
   idles e =
-      let s : startOf (p .rest) ≡ 64 = ap startOf e ∙ trailing-of-zero 64 in
-      let t : endOf (p .rest) ≡ 64 = ap endOf e ∙ end-of-none in
-      let bits : x / 2 ^ startOf (p .rest) % 2 ^ (endOf (p .rest) - startOf (p .rest)) ≡ 0 = rw (t, s) (omega arith) in
+      let s : runStart (p .rest) ≡ 64 = ap runStart e ∙ trailing-of-zero 64 in
+      let t : runEnd (p .rest) ≡ 64 = ap runEnd e ∙ end-of-none in
+      let bits : x / 2 ^ runStart (p .rest) % 2 ^ (runEnd (p .rest) - runStart (p .rest)) ≡ 0 = rw (t, s) (omega arith) in
       let number : roundOf x p .number ≡ p .number = rw (bits, mul-zero) (omega arith) in
       let used : roundOf x p .used ≡ p .used = rw (t, s) (omega arith) in
       let rest : roundOf x p .rest ≡ p .rest = rw (t, s) (omega arith) in
@@ -141,10 +141,10 @@ one-short = (refl, refl, refl)
 -- what `message::round` computes, for a packing under way
 module _ (x : ℕ) (p : Packing) (h : Ready x p) where
   abbrev s : ℕ
-  s = startOf (p .rest)
+  s = runStart (p .rest)
 
   abbrev e : ℕ
-  e = endOf (p .rest)
+  e = runEnd (p .rest)
 
   run-of : Lowest 52 64 x (p .rest)
   run-of = run x (p .rest) (h .1) (h .0)

@@ -7,18 +7,18 @@ use Rattle.message.specs.declared.Counted.{Counted}
 use Rattle.message.specs.declared.Packing.{Packing}
 
 -- the lowest run of ones in y starts at this bit ..
-abbrev pub startOf : ℕ → ℕ
-startOf y = trailingZeros 64 y
+abbrev pub runStart : ℕ → ℕ
+runStart y = trailingZeros 64 y
 
 -- .. and ends below this one: a one added at its start is carried through it
-abbrev pub endOf : ℕ → ℕ
-endOf y = trailingZeros 64 (y + 2 ^ startOf y)
+abbrev pub runEnd : ℕ → ℕ
+runEnd y = trailingZeros 64 (y + 2 ^ runStart y)
 
 -- the bits of x in that run, above what is packed already; where no run is left nothing changes
 abbrev pub roundOf : ℕ → Packing → Packing
 roundOf x p =
-    let start = startOf (p .rest) in
-    let end = endOf (p .rest) in
+    let start = runStart (p .rest) in
+    let end = runEnd (p .rest) in
     record {
       number = p .number + 2 ^ p .used * (x / 2 ^ start % 2 ^ (end - start));
       used = p .used + (end - start);
@@ -27,7 +27,7 @@ roundOf x p =
 
 -- what a round needs of a packing under way: a one is left, all of them stand in 52 bits and none below the places taken, and the number stands below them
 abbrev pub Ready : ℕ → Packing → Type 0
-Ready x p = (0 < p .rest) × (p .rest < 2 ^ 52) × (p .used ≤ startOf (p .rest)) × (p .number < 2 ^ 52)
+Ready x p = (0 < p .rest) × (p .rest < 2 ^ 52) × (p .used ≤ runStart (p .rest)) × (p .number < 2 ^ 52)
 
 -- nothing packed yet, of a mask of 52 bits
 abbrev pub beginning : ℕ → Packing

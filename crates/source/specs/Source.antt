@@ -123,15 +123,15 @@ clears d Edge0 e = edgeClears e
 clears d Level1 e = levelClears d e
 clears d Level0 e = levelClears d e
 
-abbrev pub pendingAfter : Delivery → Mode → Event → Bool → Bool
-pendingAfter d m e p = not (clears d m e) && (sets d m e || p)
+abbrev pub newPending : Delivery → Mode → Event → Bool → Bool
+newPending d m e p = not (clears d m e) && (sets d m e || p)
 
 -- ---- what each kind of call does to a source
 abbrev pub withPending : Bool → Source → Source
 withPending p s = record { mode = s .mode; wire = s .wire; pending = p; enable = s .enable; target = s .target }
 
 abbrev pub befalls : Delivery → Event → Source → Source
-befalls d e s = withPending (pendingAfter d (s .mode) e (s .pending)) s
+befalls d e s = withPending (newPending d (s .mode) e (s .pending)) s
 
 -- its wire takes a level
 unfoldable pub sensed : Delivery → Bool → Source → Source
@@ -139,7 +139,7 @@ sensed d w s =
     record {
       mode = s .mode;
       wire = w;
-      pending = pendingAfter d (s .mode) (input (inputOf s) (rectified (s .mode) w)) (s .pending);
+      pending = newPending d (s .mode) (input (inputOf s) (rectified (s .mode) w)) (s .pending);
       enable = s .enable;
       target = s .target;
     }

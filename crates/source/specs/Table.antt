@@ -2,7 +2,7 @@
 use Prim.Native.Nat.{ℕ}
 use mathlib.Core.Bool.{Bool, false, _&&_}
 use Rattle.memory.specs.Choice.{pick}
-use Rattle.word.specs.Word.{inside}
+use Rattle.word.specs.Word.{isSource}
 use Rattle.hart.specs.declared.Hart.{Hart}
 use Rattle.hart.specs.Hart.{resting}
 use Rattle.source.specs.declared.Delivery.{Delivery}
@@ -26,4 +26,4 @@ startOf d = record { delivery = d; enable = false; row = λ i. quiet; hart = λ 
 
 -- the sources that are chosen are changed, each by itself
 abbrev pub act : (ℕ → Bool) → (Source → Source) → Table → Table
-act sel f t = record { delivery = t .delivery; enable = t .enable; row = λ i. pick (inside i && sel i) (f (t .row i)) (t .row i); hart = t .hart }
+act sel f t = record { delivery = t .delivery; enable = t .enable; row = λ i. pick (isSource i && sel i) (f (t .row i)) (t .row i); hart = t .hart }

@@ -6,12 +6,12 @@ use lib.Bits.{bitAnd, bitOr, bitXor}
 use Rattle.memory.specs.Bits.{without}
 use Rattle.memory.specs.Choice.{pick}
 use Rattle.memory.proofs.Truth.{Row, every, same, is-same}
-use Rattle.word.specs.Word.{marks, inside, setOf}
-use Rattle.word.proofs.Bits.{is-inside, other, bit-and, bit-or, bit-xor, bit-without, bit-set}
+use Rattle.word.specs.Word.{contains, isSource, setOf}
+use Rattle.word.proofs.Bits.{is-source, other, bit-and, bit-or, bit-xor, bit-without, bit-set}
 use Rattle.source.specs.declared.Delivery.{Delivery}
 use Rattle.source.specs.declared.Delivery.the-variants.{Direct, Message}
 use Rattle.source.specs.declared.Source.{Source}
-use Rattle.source.specs.Source.{directOf, modeFrom, activeOf, rectified, input, setip, clrip, pendingAfter, raised, lowered, allowed, sensed}
+use Rattle.source.specs.Source.{directOf, modeFrom, activeOf, rectified, input, setip, clrip, newPending, raised, lowered, allowed, sensed}
 use Rattle.sources.specs.declared.Sources.{Sources}
 use Rattle.sources.specs.Sources.{sourceOf, Acts, Inputs}
 
@@ -31,7 +31,7 @@ input-bits wd lv lo wi = is-same _ _ (every 4 (λ wd lv lo wi. same (input′ wd
 
 pub inputs-are : (s : Sources) → Inputs s (bitAnd (s .wired) (bitXor (s .wires) (s .low)))
 unfolding Inputs sourceOf
-inputs-are s i t = simp (bit-and, bit-xor) (input-bits (marks (s .wired) i) (marks (s .level) i) (marks (s .low) i) (marks (s .wires) i))
+inputs-are s i t = simp (bit-and, bit-xor) (input-bits (contains (s .wired) i) (contains (s .level) i) (contains (s .low) i) (contains (s .wires) i))
 
 -- ---- a source whose pending bit alone changes
 row-of : (m wd lv lo wi p en q : Bool) (t : ℕ) (f : Source → Source)
@@ -49,10 +49,10 @@ abbrev lower′ : Bool → Row 6
 lower′ di m wd lv lo wi p = p && not (m && ((wd || lo) && not ((wd && lv) && di)))
 
 abbrev raised′ : Delivery → Row 6
-raised′ d m wd lv lo wi p = pick m (pendingAfter d (modeFrom wd lv lo) (setip (rectified (modeFrom wd lv lo) wi)) p) p
+raised′ d m wd lv lo wi p = pick m (newPending d (modeFrom wd lv lo) (setip (rectified (modeFrom wd lv lo) wi)) p) p
 
 abbrev lowered′ : Delivery → Row 6
-lowered′ d m wd lv lo wi p = pick m (pendingAfter d (modeFrom wd lv lo) clrip p) p
+lowered′ d m wd lv lo wi p = pick m (newPending d (modeFrom wd lv lo) clrip p) p
 
 raise-bits : (d : Delivery) (m wd lv lo wi p : Bool) → raise′ (directOf d) m wd lv lo wi p ≡ raised′ d m wd lv lo wi p
 raise-bits Direct m wd lv lo wi p = is-same _ _ (every 6 (Same (raise′ true) (raised′ Direct)) refl m wd lv lo wi p)
@@ -75,20 +75,20 @@ abbrev pended : Sources → ℕ → Sources
 pended s p = record { wired = s .wired; level = s .level; low = s .low; wires = s .wires; pending = p; enable = s .enable }
 
 -- e has every source in direct delivery, and none in message delivery
-module _ (s : Sources) (d : Delivery) (mask e : ℕ) (b : Bool) (hb : b ≡ directOf d) (he : (i : ℕ) → inside i ≡ true → marks e i ≡ b) where
-  direct-at : (i : ℕ) → 0 < i → i < 64 → marks e i ≡ directOf d
-  direct-at i p q = he i (is-inside i p q) ∙ hb
+module _ (s : Sources) (d : Delivery) (mask e : ℕ) (b : Bool) (hb : b ≡ directOf d) (he : (i : ℕ) → isSource i ≡ true → contains e i ≡ b) where
+  direct-at : (i : ℕ) → 0 < i → i < 64 → contains e i ≡ directOf d
+  direct-at i p q = he i (is-source i p q) ∙ hb
 
   pub raises : (h a o : ℕ) → h ≡ without (bitXor (s .wires) (s .low)) e → a ≡ without (bitAnd (s .wired) (s .level)) h → o ≡ without (bitOr (s .wired) (s .low)) a
-      → Acts (marks mask) (raised d) s (pended s (bitOr (bitAnd mask o) (s .pending)))
+      → Acts (contains mask) (raised d) s (pended s (bitOr (bitAnd mask o) (s .pending)))
   unfolding Acts sourceOf
   raises h a o hh ha ho i t p q =
-      rw (ho, ha, hh) (simp (bit-or, bit-and, bit-without, bit-xor, direct-at i p q) (raise-row d (marks mask i) (marks (s .wired) i) (marks (s .level) i) (marks (s .low) i) (marks (s .wires) i) (marks (s .pending) i) (marks (s .enable) i) t))
+      rw (ho, ha, hh) (simp (bit-or, bit-and, bit-without, bit-xor, direct-at i p q) (raise-row d (contains mask i) (contains (s .wired) i) (contains (s .level) i) (contains (s .low) i) (contains (s .wires) i) (contains (s .pending) i) (contains (s .enable) i) t))
 
-  pub lowers : (o z : ℕ) → o ≡ without (bitOr (s .wired) (s .low)) (bitAnd (bitAnd (s .wired) (s .level)) e) → z ≡ without (s .pending) (bitAnd mask o) → Acts (marks mask) (lowered d) s (pended s z)
+  pub lowers : (o z : ℕ) → o ≡ without (bitOr (s .wired) (s .low)) (bitAnd (bitAnd (s .wired) (s .level)) e) → z ≡ without (s .pending) (bitAnd mask o) → Acts (contains mask) (lowered d) s (pended s z)
   unfolding Acts sourceOf
   lowers o z ho hz i t p q =
-      rw (hz, ho) (simp (bit-or, bit-and, bit-without, direct-at i p q) (lower-row d (marks mask i) (marks (s .wired) i) (marks (s .level) i) (marks (s .low) i) (marks (s .wires) i) (marks (s .pending) i) (marks (s .enable) i) t))
+      rw (hz, ho) (simp (bit-or, bit-and, bit-without, direct-at i p q) (lower-row d (contains mask i) (contains (s .wired) i) (contains (s .level) i) (contains (s .low) i) (contains (s .wires) i) (contains (s .pending) i) (contains (s .enable) i) t))
 
 -- ---- enable bits
 active-bits : (wd lv lo : Bool) → wd || lo ≡ activeOf (modeFrom wd lv lo)
@@ -110,15 +110,15 @@ abbrev enabled : Sources → ℕ → Sources
 enabled s e = record { wired = s .wired; level = s .level; low = s .low; wires = s .wires; pending = s .pending; enable = e }
 
 module _ (s : Sources) (mask : ℕ) where
-  pub allows : Acts (marks mask) (allowed true) s (enabled s (bitOr (bitAnd mask (bitOr (s .wired) (s .low))) (s .enable)))
+  pub allows : Acts (contains mask) (allowed true) s (enabled s (bitOr (bitAnd mask (bitOr (s .wired) (s .low))) (s .enable)))
   unfolding Acts sourceOf
   allows i t _ _ =
-      simp (bit-or, bit-and) (allow-row (marks mask i) (marks (s .wired) i) (marks (s .level) i) (marks (s .low) i) (marks (s .wires) i) (marks (s .pending) i) (marks (s .enable) i) t)
+      simp (bit-or, bit-and) (allow-row (contains mask i) (contains (s .wired) i) (contains (s .level) i) (contains (s .low) i) (contains (s .wires) i) (contains (s .pending) i) (contains (s .enable) i) t)
 
-  pub forbids : (q : ℕ) → q ≡ without (s .enable) mask → Acts (marks mask) (allowed false) s (enabled s q)
+  pub forbids : (q : ℕ) → q ≡ without (s .enable) mask → Acts (contains mask) (allowed false) s (enabled s q)
   unfolding Acts sourceOf
   forbids q hq i t _ _ =
-      rw hq (simp bit-without (forbid-row (marks mask i) (marks (s .wired) i) (marks (s .level) i) (marks (s .low) i) (marks (s .wires) i) (marks (s .pending) i) (marks (s .enable) i) t))
+      rw hq (simp bit-without (forbid-row (contains mask i) (contains (s .wired) i) (contains (s .level) i) (contains (s .low) i) (contains (s .wires) i) (contains (s .pending) i) (contains (s .enable) i) t))
 
 -- ---- a wire
 abbrev wire′ : Bool → Bool → Bool → Bool
@@ -129,7 +129,7 @@ sense′ di m on wd lv lo wi p =
     (m && (wd && lv)) && (input′ wd lo (wire′ m on wi) && di) || (input′ wd lo (wire′ m on wi) && not (input′ wd lo wi) || p) && not ((m && (wd && lv)) && not (input′ wd lo (wire′ m on wi)))
 
 abbrev told : Delivery → Row 7
-told d m on wd lv lo wi p = pick m (pendingAfter d (modeFrom wd lv lo) (input (rectified (modeFrom wd lv lo) wi) (rectified (modeFrom wd lv lo) on)) p) p
+told d m on wd lv lo wi p = pick m (newPending d (modeFrom wd lv lo) (input (rectified (modeFrom wd lv lo) wi) (rectified (modeFrom wd lv lo) on)) p) p
 
 sense-bits : (d : Delivery) (m on wd lv lo wi p : Bool) → sense′ (directOf d) m on wd lv lo wi p ≡ told d m on wd lv lo wi p
 sense-bits Direct m on wd lv lo wi p = is-same _ _ (every 7 (λ m on wd lv lo wi p. same (sense′ true m on wd lv lo wi p) (told Direct m on wd lv lo wi p)) refl m on wd lv lo wi p)
@@ -147,16 +147,16 @@ sense-row d m on wd lv lo wi p en t = rw (sense-bits d m on wd lv lo wi p, wire-
     go true = refl
     go false = refl
 
-module _ (s : Sources) (d : Delivery) (mask e : ℕ) (on b : Bool) (hb : b ≡ directOf d) (he : (i : ℕ) → inside i ≡ true → marks e i ≡ b) where
+module _ (s : Sources) (d : Delivery) (mask e : ℕ) (on b : Bool) (hb : b ≡ directOf d) (he : (i : ℕ) → isSource i ≡ true → contains e i ≡ b) where
   pub senses : (w r f q : ℕ) → w ≡ setOf (s .wires) mask on
       → r ≡ without (bitAnd (s .wired) (bitXor w (s .low))) (bitAnd (s .wired) (bitXor (s .wires) (s .low)))
       → f ≡ without (bitAnd mask (bitAnd (s .wired) (s .level))) (bitAnd (s .wired) (bitXor w (s .low)))
       → q ≡ without (bitOr r (s .pending)) f
-      → Acts (marks mask) (sensed d on) s
+      → Acts (contains mask) (sensed d on) s
       (record { wired = s .wired; level = s .level; low = s .low; wires = w; pending = bitOr (bitAnd (bitAnd mask (bitAnd (s .wired) (s .level))) (bitAnd (bitAnd (s .wired) (bitXor w (s .low))) e)) q; enable = s .enable })
   unfolding Acts sourceOf
   senses w r f q hw hr hf hq i t p k =
       rw (hq, hr, hf, hw)
-      (simp (bit-or, bit-and, bit-without, bit-xor, bit-set, he i (is-inside i p k) ∙ hb) (sense-row d (marks mask i) on (marks (s .wired) i) (marks (s .level) i) (marks (s .low) i) (marks (s .wires) i) (marks (s .pending) i) (marks (s .enable) i) t))
+      (simp (bit-or, bit-and, bit-without, bit-xor, bit-set, he i (is-source i p k) ∙ hb) (sense-row d (contains mask i) on (contains (s .wired) i) (contains (s .level) i) (contains (s .low) i) (contains (s .wires) i) (contains (s .pending) i) (contains (s .enable) i) t))
 
 pub ruleset masks = (inputs-are, raises, lowers, allows, forbids, senses)

@@ -5,7 +5,7 @@ use Prim.Native.Nat.{ℕ, _<_}
 use lib.Bits.{bitAnd}
 use lib.Dec.{eqb}
 use Rattle.memory.specs.Choice.{pick}
-use Rattle.word.specs.Word.{marks, putOf, only, lowest}
+use Rattle.word.specs.Word.{contains, putOf, only, lowest}
 use Rattle.word.proofs.Bits.{bit-put, bit-and, lowest-ext}
 use Rattle.source.specs.declared.Mode.{Mode}
 use Rattle.source.specs.declared.Mode.the-variants.{Inactive, Detached, Edge1, Edge0, Level1, Level0}
@@ -26,8 +26,8 @@ module _ (s : Sources) (n : ℕ) (x : Source) (bw bl bo : Bool) (w v l y p e : �
     (hbw : bw ≡ wiredOf (x .mode)) (hbl : bl ≡ levelOf (x .mode)) (hbo : bo ≡ lowOf (x .mode))
     (hw : w ≡ putOf (s .wired) n bw) (hv : v ≡ putOf (s .level) n bl) (hl : l ≡ putOf (s .low) n bo)
     (hy : y ≡ putOf (s .wires) n (x .wire)) (hp : p ≡ putOf (s .pending) n (x .pending)) (he : e ≡ putOf (s .enable) n (x .enable)) where
-  bit-of : (i : ℕ) (y z : ℕ) (b : Bool) → y ≡ putOf z n b → marks y i ≡ pick (eqb i n) b (marks z i)
-  bit-of i y z b h = ap (λ (k : ℕ). marks k i) h ∙ bit-put i z n b inN
+  bit-of : (i : ℕ) (y z : ℕ) (b : Bool) → y ≡ putOf z n b → contains y i ≡ pick (eqb i n) b (contains z i)
+  bit-of i y z b h = ap (λ (k : ℕ). contains k i) h ∙ bit-put i z n b inN
 
   pub placed : Acts (only n) (lined x) s (record { wired = w; level = v; low = l; wires = y; pending = p; enable = e })
   unfolding Acts sourceOf only
@@ -44,18 +44,18 @@ module _ (s : Sources) (n : ℕ) (x : Source) (bw bl bo : Bool) (w v l y p e : �
       go : (b : Bool)
           → _≡_ {A = Source}
           (record {
-            mode = modeFrom (pick b (wiredOf (x .mode)) (marks (s .wired) i)) (pick b (levelOf (x .mode)) (marks (s .level) i)) (pick b (lowOf (x .mode)) (marks (s .low) i));
-            wire = pick b (x .wire) (marks (s .wires) i);
-            pending = pick b (x .pending) (marks (s .pending) i);
-            enable = pick b (x .enable) (marks (s .enable) i);
+            mode = modeFrom (pick b (wiredOf (x .mode)) (contains (s .wired) i)) (pick b (levelOf (x .mode)) (contains (s .level) i)) (pick b (lowOf (x .mode)) (contains (s .low) i));
+            wire = pick b (x .wire) (contains (s .wires) i);
+            pending = pick b (x .pending) (contains (s .pending) i);
+            enable = pick b (x .enable) (contains (s .enable) i);
             target = t;
           })
           (pick b (lined x (sourceOf s i t)) (sourceOf s i t))
       go true = rw (mode-bits (x .mode))
       go false = refl
 
-pub first-waits : (s : Sources) (r : ℕ) → r ≡ lowest 63 1 (marks (bitAnd (s .pending) (s .enable))) → r ≡ firstWaiting s
+pub first-waits : (s : Sources) (r : ℕ) → r ≡ lowest 63 1 (contains (bitAnd (s .pending) (s .enable))) → r ≡ firstWaiting s
 unfolding firstWaiting
-first-waits s r e = e ∙ lowest-ext 63 1 (marks (bitAnd (s .pending) (s .enable))) (λ i. marks (s .pending) i && marks (s .enable) i) (λ i a b. bit-and i (s .pending) (s .enable))
+first-waits s r e = e ∙ lowest-ext 63 1 (contains (bitAnd (s .pending) (s .enable))) (λ i. contains (s .pending) i && contains (s .enable) i) (λ i a b. bit-and i (s .pending) (s .enable))
 
 pub ruleset rows = (placed, first-waits)

@@ -3,7 +3,7 @@ use Prim.Native.Nat.{ℕ, _<_}
 use mathlib.Core.Bool.{Bool, _&&_}
 use mathlib.Core.Path.{_≡_}
 use Rattle.memory.specs.Choice.{pick}
-use Rattle.word.specs.Word.{marks, inside, lowest}
+use Rattle.word.specs.Word.{contains, isSource, lowest}
 use Rattle.hart.specs.declared.Hart.{Hart}
 use Rattle.source.specs.declared.Delivery.{Delivery}
 use Rattle.source.specs.declared.Source.{Source}
@@ -15,10 +15,10 @@ use Rattle.sources.specs.declared.Sources.{Sources}
 unfoldable pub sourceOf : Sources → ℕ → ℕ → Source
 sourceOf s i t =
     record {
-      mode = modeFrom (marks (s .wired) i) (marks (s .level) i) (marks (s .low) i);
-      wire = marks (s .wires) i;
-      pending = marks (s .pending) i;
-      enable = marks (s .enable) i;
+      mode = modeFrom (contains (s .wired) i) (contains (s .level) i) (contains (s .low) i);
+      wire = contains (s .wires) i;
+      pending = contains (s .pending) i;
+      enable = contains (s .enable) i;
       target = t;
     }
 
@@ -30,7 +30,7 @@ pub record Common : Type 0 where
 
 -- the table, with what the sources have in common and their targets
 unfoldable pub tableWith : Common → Sources → (ℕ → ℕ) → Table
-tableWith c s targets = record { delivery = c .delivery; enable = c .enable; row = λ i. pick (inside i) (sourceOf s i (targets i)) quiet; hart = c .hart }
+tableWith c s targets = record { delivery = c .delivery; enable = c .enable; row = λ i. pick (isSource i) (sourceOf s i (targets i)) quiet; hart = c .hart }
 
 -- in r, each source that is chosen is what f makes of it, and each other one is as it was
 unfoldable pub Acts : (ℕ → Bool) → (Source → Source) → Sources → Sources → Type 0
@@ -42,8 +42,8 @@ lined s x = record { mode = s .mode; wire = s .wire; pending = s .pending; enabl
 
 -- w has the rectified inputs
 unfoldable pub Inputs : Sources → ℕ → Type 0
-Inputs s w = (i t : ℕ) → marks w i ≡ inputOf (sourceOf s i t)
+Inputs s w = (i t : ℕ) → contains w i ≡ inputOf (sourceOf s i t)
 
 -- the lowest source that is pending and enabled, or 64
 unfoldable pub firstWaiting : Sources → ℕ
-firstWaiting s = lowest 63 1 (λ i. marks (s .pending) i && marks (s .enable) i)
+firstWaiting s = lowest 63 1 (λ i. contains (s .pending) i && contains (s .enable) i)

@@ -2,7 +2,7 @@
 ghost use mathlib.Core.Path.{_≡_};
 ghost use mathlib.Core.Bool.{true, false};
 ghost use Prim.Native.Nat.{_<_};
-ghost use Rattle.word.specs.Word.{marks, only};
+ghost use Rattle.word.specs.Word.{contains, only};
 ghost use Rattle.source.specs.Source.{raised, lowered, allowed, sensed};
 ghost use Rattle.sources.specs.Sources.{sourceOf, Acts, Inputs, lined, firstWaiting};
 use source::Delivery;
@@ -61,7 +61,7 @@ impl Sources {
     // The wires of the mask take a level. Where the rectified input rises a source becomes pending; where it is low a level-sensitive one is so no more.
     // In direct delivery a level-sensitive source is pending where the rectified input is high.
     pub fn sense(mut self, d: Delivery, mask: u64, level: bool) -> Sources
-        ensures { λ r. ⌜ Acts (marks mask) (sensed d level) self r ⌝ }
+        ensures { λ r. ⌜ Acts (contains mask) (sensed d level) self r ⌝ }
     {
         let direct = word::every(source::is_direct(d));
         let was = self.wired & (self.wires ^ self.low);
@@ -77,7 +77,7 @@ impl Sources {
 
     // Sets pending bits: of active sources, but not of a level-sensitive one whose rectified input is low, nor of any such one in direct delivery.
     pub fn raise(mut self, d: Delivery, mask: u64) -> Sources
-        ensures { λ r. ⌜ Acts (marks mask) (raised d) self r ⌝ }
+        ensures { λ r. ⌜ Acts (contains mask) (raised d) self r ⌝ }
     {
         let direct = word::every(source::is_direct(d));
         let high = word::without(self.wires ^ self.low, direct);
@@ -89,7 +89,7 @@ impl Sources {
 
     // Clears pending bits of active sources, but not of a level-sensitive one in direct delivery.
     pub fn lower(mut self, d: Delivery, mask: u64) -> Sources
-        ensures { λ r. ⌜ Acts (marks mask) (lowered d) self r ⌝ }
+        ensures { λ r. ⌜ Acts (contains mask) (lowered d) self r ⌝ }
     {
         let direct = word::every(source::is_direct(d));
         let held = self.wired & self.level & direct;
@@ -100,7 +100,7 @@ impl Sources {
 
     // Sets enable bits of active sources.
     pub fn allow(mut self, mask: u64) -> Sources
-        ensures { λ r. ⌜ Acts (marks mask) (allowed true) self r ⌝ }
+        ensures { λ r. ⌜ Acts (contains mask) (allowed true) self r ⌝ }
     {
         self.enable = mask & (self.wired | self.low) | self.enable;
         self
@@ -108,7 +108,7 @@ impl Sources {
 
     // Clears enable bits.
     pub fn forbid(mut self, mask: u64) -> Sources
-        ensures { λ r. ⌜ Acts (marks mask) (allowed false) self r ⌝ }
+        ensures { λ r. ⌜ Acts (contains mask) (allowed false) self r ⌝ }
     {
         self.enable = word::without(self.enable, mask);
         self

@@ -18,11 +18,12 @@ use lib.Bits.{bitAnd, bitOr, bitXor, differ, and-step, or-step, xor-step, and-sh
 use Rattle.memory.specs.Bits.{without}
 use Rattle.memory.specs.Choice.{pick}
 use Rattle.memory.proofs.Choices.{eqb-same, yes-is, no-is}
-use Rattle.word.specs.Word.{marks, digit, wordOf, lowest, putOf, setOf, half, inside, chosen, only}
+use Rattle.memory.proofs.Truth.{and-true}
+use Rattle.word.specs.Word.{contains, digit, wordOf, lowest, putOf, setOf, half, isSource, chosen, only}
 
 -- the bit's number first, for the laws
 abbrev pub bit : ℕ → ℕ → Bool
-bit i x = marks x i
+bit i x = contains x i
 
 abbrev odd : ℕ → Bool
 odd x = eqb (x % 2) 1
@@ -63,23 +64,23 @@ other true b = not b
 other false b = b
 
 pub bit-and : (i a b : ℕ) → bit i (bitAnd a b) ≡ bit i a && bit i b
-unfolding marks
+unfolding contains
 bit-and i a b = rw (and-shr, and-step) (odd-op min _&&_ _ (a / 2 ^ i) (b / 2 ^ i) (omega arith) (omega arith) (omega arith) (omega arith) refl refl refl refl)
 
 pub bit-or : (i a b : ℕ) → bit i (bitOr a b) ≡ bit i a || bit i b
-unfolding marks
+unfolding contains
 bit-or i a b = rw (or-shr, or-step) (odd-op max _||_ _ (a / 2 ^ i) (b / 2 ^ i) (omega arith) (omega arith) (omega arith) (omega arith) refl refl refl refl)
 
 pub bit-xor : (i a b : ℕ) → bit i (bitXor a b) ≡ other (bit i a) (bit i b)
-unfolding marks
+unfolding contains
 bit-xor i a b = rw (xor-shr, xor-step) (odd-op differ other _ (a / 2 ^ i) (b / 2 ^ i) (omega arith) (omega arith) (omega arith) (omega arith) refl refl refl refl)
 
 pub bit-zero : (v : ℕ) → bit 0 v ≡ odd v
-unfolding marks
+unfolding contains
 bit-zero v = rw div-one
 
 pub bit-suc : (k v : ℕ) → bit (suc k) v ≡ bit k (v / 2)
-unfolding marks
+unfolding contains
 bit-suc k v = rw (shr-shr v 1 k, one-add)
 
 odd-without : (x a b : ℕ) → odd (x * 2 + (a % 2 - min (a % 2) (b % 2))) ≡ odd a && not (odd b)
@@ -116,7 +117,7 @@ bit-one i n l = rw (one-mul, mod-eq-of-lt (pow-lt l)) (bit-pow i n)
 
 -- a number moved up
 bit-shr : (j k x : ℕ) → bit j (x / 2 ^ k) ≡ bit (k + j) x
-unfolding marks
+unfolding contains
 bit-shr j k x = rw (shr-shr x k j)
 
 pub bit-shl-high : (k j v : ℕ) → bit (k + j) (v * 2 ^ k) ≡ bit j v
@@ -215,7 +216,7 @@ lowest-none (suc n) k f h =
     ap (λ (x : Bool). pick x k (lowest n (suc k) f)) (h k (omega arith) (omega arith)) ∙ lowest-none n (suc k) f (λ j a b. h j (omega arith) (omega arith)) ∙ e
 
 pub trailing-lowest : (n k x : ℕ) → k + trailingZeros n (x / 2 ^ k) ≡ lowest n k (λ i. bit i x)
-unfolding lowest trailingZeros marks
+unfolding lowest trailingZeros contains
 trailing-lowest zero k x = add-zero k
 trailing-lowest (suc n) k x =
     let e : x / 2 ^ k / 2 ≡ x / 2 ^ suc k = rw (shr-shr x k 1, add-one) in
@@ -228,15 +229,11 @@ trailing-lowest (suc n) k x =
     go _ one e t = rw e (omega arith)
 
 -- ---- digits 1 to 63
-pub and-true : (a b : Bool) → a && b ≡ true → (a ≡ true) × (b ≡ true)
-and-true true b e = (refl, e)
-and-true false b e = (e, cc)
-
-pub within : (i : ℕ) → inside i ≡ true → (0 < i) × (i < 64)
+pub within : (i : ℕ) → isSource i ≡ true → (0 < i) × (i < 64)
 within i e = let p = and-true _ _ e in (ltb-true _ _ (p .0), ltb-true _ _ (p .1))
 
-pub is-inside : (i : ℕ) → 0 < i → i < 64 → inside i ≡ true
-is-inside i a b = rw (lt-ltb 0 i a, lt-ltb i 64 b)
+pub is-source : (i : ℕ) → 0 < i → i < 64 → isSource i ≡ true
+is-source i a b = rw (lt-ltb 0 i a, lt-ltb i 64 b)
 
 -- one digit is put
 put-raised : (a b : Bool) → a || b ≡ pick b true a
@@ -321,8 +318,8 @@ upper x h = omega arith
 pub half-ext : (high : Bool) (f g : ℕ → Bool) → ((i : ℕ) → f i ≡ g i) → half high f ≡ half high g
 half-ext high f g h = word-ext 32 _ _ (λ j l. h (pick high (32 + j) j))
 
-pub half-high : (x : ℕ) → x < 2 ^ 64 → x / 2 ^ 32 ≡ half true (λ i. inside i && bit i x)
-half-high x h = upper x h ∙ word-at 32 32 x ∙ word-ext 32 _ _ (λ j l. rw (is-inside (32 + j) (omega arith) (omega arith)))
+pub half-high : (x : ℕ) → x < 2 ^ 64 → x / 2 ^ 32 ≡ half true (λ i. isSource i && bit i x)
+half-high x h = upper x h ∙ word-at 32 32 x ∙ word-ext 32 _ _ (λ j l. rw (is-source (32 + j) (omega arith) (omega arith)))
 
 even-bit : (i x : ℕ) → bit i (x / 2 * 2) ≡ ltb 0 i && bit i x
 even-bit zero x = let e : x / 2 * 2 % 2 ≡ 0 = omega arith in rw (bit-zero, e)
@@ -331,7 +328,7 @@ even-bit (suc i) x = let e : x / 2 * 2 / 2 ≡ x / 2 = omega arith in rw (bit-su
 lower : (x : ℕ) → x / 2 % 0x8000_0000 * 2 ≡ x / 2 * 2 % 2 ^ 32
 lower x = omega arith
 
-pub half-low : (x : ℕ) → x / 2 % 0x8000_0000 * 2 ≡ half false (λ i. inside i && bit i x)
+pub half-low : (x : ℕ) → x / 2 % 0x8000_0000 * 2 ≡ half false (λ i. isSource i && bit i x)
 half-low x = lower x ∙ word-low 32 (x / 2 * 2) ∙ word-ext 32 _ _ (λ j l. even-bit j x ∙ rw (lt-ltb j 64 (omega arith)) (same (ltb 0 j) (bit j x)))
   where
     same : (a b : Bool) → a && b ≡ (a && true) && b
@@ -339,7 +336,7 @@ half-low x = lower x ∙ word-low 32 (x / 2 * 2) ∙ word-ext 32 _ _ (λ j l. ev
     same false b = refl
 
 pub mask-high : (v i : ℕ) → v < 2 ^ 32 → i < 64 → bit i (v * 2 ^ 32 % 2 ^ 64) ≡ chosen true v i
-unfolding marks chosen
+unfolding contains chosen
 mask-high v i h l = ap (bit i) (shl-exact 32 32 64 h (omega arith)) ∙ go (decLt i 32)
   where
     go : Dec (i < 32) → bit i (v * 2 ^ 32) ≡ chosen true v i
@@ -350,7 +347,7 @@ mask-high v i h l = ap (bit i) (shl-exact 32 32 64 h (omega arith)) ∙ go (decL
         ∙ ap (λ (b : Bool). b && bit (i % 32) v) (sym (eq-eqb (i / 32) 1 (omega arith)))
 
 pub mask-low : (v i : ℕ) → v < 2 ^ 32 → i < 64 → bit i v ≡ chosen false v i
-unfolding marks chosen
+unfolding contains chosen
 mask-low v i h l = go (decLt i 32)
   where
     go : Dec (i < 32) → bit i v ≡ chosen false v i
@@ -359,11 +356,11 @@ mask-low v i h l = go (decLt i 32)
         rw e (ap (λ (b : Bool). b && bit i v) (sym (eq-eqb (i / 32) 0 (omega arith))))
     go (no p) = bit-above i v (lt-of-lt-of-le h (pow-mono {i = 32} {j = i} (omega arith))) ∙ ap (λ (b : Bool). b && bit (i % 32) v) (sym (ne-eqb (i / 32) 0 (λ e. omega arith)))
 
-pub one-bit : (n i : ℕ) → n < 64 → inside i ≡ true → marks (1 * 2 ^ n % 2 ^ 64) i ≡ only n i
+pub one-bit : (n i : ℕ) → n < 64 → isSource i ≡ true → contains (1 * 2 ^ n % 2 ^ 64) i ≡ only n i
 unfolding only
 one-bit n i l h = bit-one i n l
 
-pub no-bit : (n i : ℕ) → 64 ≤ n → inside i ≡ true → marks 0 i ≡ only n i
+pub no-bit : (n i : ℕ) → 64 ≤ n → isSource i ≡ true → contains 0 i ≡ only n i
 unfolding only
 no-bit n i l h = let w = within i h in zero-digit i ∙ sym (ne-eqb i n (λ e. omega arith))
 
@@ -373,7 +370,7 @@ even-up x i a = even-bit i x ∙ ap (λ (b : Bool). b && bit i x) (lt-ltb 0 i (o
 pub even-zero : (x : ℕ) → bit 0 (x / 2 * 2) ≡ false
 even-zero x = even-bit 0 x
 
-pub first-is : (x : ℕ) → trailingZeros 64 (x / 2 * 2) ≡ lowest 63 1 (marks x)
+pub first-is : (x : ℕ) → trailingZeros 64 (x / 2 * 2) ≡ lowest 63 1 (contains x)
 unfolding lowest
 first-is x =
     let a : 0 + trailingZeros 64 (x / 2 * 2 / 2 ^ 0) ≡ lowest 64 0 (λ i. bit i (x / 2 * 2)) = trailing-lowest 64 0 (x / 2 * 2) in
@@ -386,16 +383,16 @@ pub first-fits : (x : ℕ) → Fits w64 (trailingZeros 64 x)
 first-fits x = fits-le (trailing-le 64 x) (fits-lit tt)
 
 -- by a flag
-pub half-up : (high : Bool) (x : ℕ) → high ≡ true → x < 2 ^ 64 → x / 2 ^ 32 ≡ half high (λ i. inside i && bit i x)
-half-up high x e h = half-high x h ∙ ap (λ (b : Bool). half b (λ i. inside i && bit i x)) (sym e)
+pub half-up : (high : Bool) (x : ℕ) → high ≡ true → x < 2 ^ 64 → x / 2 ^ 32 ≡ half high (λ i. isSource i && bit i x)
+half-up high x e h = half-high x h ∙ ap (λ (b : Bool). half b (λ i. isSource i && bit i x)) (sym e)
 
-pub half-down : (high : Bool) (x : ℕ) → high ≡ false → x / 2 % 0x8000_0000 * 2 ≡ half high (λ i. inside i && bit i x)
-half-down high x e = half-low x ∙ ap (λ (b : Bool). half b (λ i. inside i && bit i x)) (sym e)
+pub half-down : (high : Bool) (x : ℕ) → high ≡ false → x / 2 % 0x8000_0000 * 2 ≡ half high (λ i. isSource i && bit i x)
+half-down high x e = half-low x ∙ ap (λ (b : Bool). half b (λ i. isSource i && bit i x)) (sym e)
 
-pub mask-up : (high : Bool) (v i : ℕ) → high ≡ true → v < 2 ^ 32 → inside i ≡ true → marks (v * 2 ^ 32 % 2 ^ 64) i ≡ chosen high v i
+pub mask-up : (high : Bool) (v i : ℕ) → high ≡ true → v < 2 ^ 32 → isSource i ≡ true → contains (v * 2 ^ 32 % 2 ^ 64) i ≡ chosen high v i
 mask-up high v i e h l = mask-high v i h (within i l .1) ∙ ap (λ (b : Bool). chosen b v i) (sym e)
 
-pub mask-down : (high : Bool) (v i : ℕ) → high ≡ false → v < 2 ^ 32 → inside i ≡ true → marks v i ≡ chosen high v i
+pub mask-down : (high : Bool) (v i : ℕ) → high ≡ false → v < 2 ^ 32 → isSource i ≡ true → contains v i ≡ chosen high v i
 mask-down high v i e h l = mask-low v i h (within i l .1) ∙ ap (λ (b : Bool). chosen b v i) (sym e)
 
 -- every number
@@ -407,14 +404,14 @@ full zero i l = absurd (omega arith)
 full (suc n) zero l = let e : (2 ^ suc n - 1) % 2 ≡ 1 = rw pow-suc (omega (arith, pow-pos n)) in rw (bit-zero, e)
 full (suc n) (suc i) l = rw (bit-suc i (2 ^ suc n - 1), full-half n) (full n i (omega arith))
 
-pub every-on : (on : Bool) (i : ℕ) → on ≡ true → inside i ≡ true → marks 0xffff_ffff_ffff_ffff i ≡ on
+pub every-on : (on : Bool) (i : ℕ) → on ≡ true → isSource i ≡ true → contains 0xffff_ffff_ffff_ffff i ≡ on
 every-on on i e h = full 64 i (within i h .1) ∙ sym e
 
-pub every-off : (on : Bool) (i : ℕ) → on ≡ false → inside i ≡ true → marks 0 i ≡ on
+pub every-off : (on : Bool) (i : ℕ) → on ≡ false → isSource i ≡ true → contains 0 i ≡ on
 every-off on i e h = zero-digit i ∙ sym e
 
-pub has-is : (x n : ℕ) → eqb (x / 2 ^ n % 2) 1 ≡ marks x n
-unfolding marks
+pub has-is : (x n : ℕ) → eqb (x / 2 ^ n % 2) 1 ≡ contains x n
+unfolding contains
 has-is x n = refl
 
 pub bit-set : (i x m : ℕ) (on : Bool) → bit i (setOf x m on) ≡ pick on (bit i x || bit i m) (bit i x && not (bit i m))

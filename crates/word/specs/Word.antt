@@ -7,8 +7,8 @@ use Rattle.memory.specs.Bits.{bit, without}
 use Rattle.memory.specs.Choice.{pick}
 
 -- number i is in x where bit i of x is 1
-unfoldable pub marks : ℕ → ℕ → Bool
-marks x i = bit x i
+unfoldable pub contains : ℕ → ℕ → Bool
+contains x i = bit x i
 
 abbrev pub digit : Bool → ℕ
 digit true = 1
@@ -25,8 +25,8 @@ lowest zero k f = k
 lowest (suc n) k f = pick (f k) k (lowest n (suc k) f)
 
 -- the sources: "sources 1 to 63" (02)
-abbrev pub inside : ℕ → Bool
-inside i = ltb 0 i && ltb i 64
+abbrev pub isSource : ℕ → Bool
+isSource i = ltb 0 i && ltb i 64
 
 -- register k of an array of masks has sources 32 k to 32 k + 31, source i at bit i mod 32 (002 4.1.5.5): k = 1 where `high`
 abbrev pub half : Bool → (ℕ → Bool) → ℕ

@@ -4,11 +4,11 @@ ghost use mathlib.Core.Bool.{true, _&&_};
 ghost use Prim.Native.Nat.{ℕ, _<_, _-_, _*_, _/_};
 ghost use lib.Bits.{bitAnd};
 ghost use Rattle.memory.specs.Bits.{without as withoutOf};
-ghost use Rattle.word.specs.Word.{marks, putOf, setOf, half, inside, chosen, only, lowest};
+ghost use Rattle.word.specs.Word.{contains, putOf, setOf, half, isSource, chosen, only, lowest};
 
 pub fn has(x: u64, n: u64) -> bool
     requires { ⌜ n < 64 ⌝ }
-    ensures { λ r. ⌜ r ≡ marks x n ⌝ }
+    ensures { λ r. ⌜ r ≡ contains x n ⌝ }
 {
     (x >> n) % 2 == 1
 }
@@ -42,7 +42,7 @@ pub fn set(x: u64, mask: u64, on: bool) -> u64
 
 // A half of the word, without number 0.
 pub fn half_of(x: u64, high: bool) -> u32
-    ensures { λ r. ⌜ r ≡ half high (λ i. inside i && marks x i) ⌝ }
+    ensures { λ r. ⌜ r ≡ half high (λ i. isSource i && contains x i) ⌝ }
 {
     if high {
         return (x >> 32) as u32;
@@ -52,7 +52,7 @@ pub fn half_of(x: u64, high: bool) -> u32
 
 // The numbers that a 32-bit value names in one half.
 pub fn mask_of(v: u32, high: bool) -> u64
-    ensures { λ r. ⌜ ((i : ℕ) → inside i ≡ true → marks r i ≡ chosen high v i) ⌝ }
+    ensures { λ r. ⌜ ((i : ℕ) → isSource i ≡ true → contains r i ≡ chosen high v i) ⌝ }
 {
     if high {
         return (v as u64) << 32;
@@ -62,7 +62,7 @@ pub fn mask_of(v: u32, high: bool) -> u64
 
 // The number n alone; none where it is no source.
 pub fn one(n: u64) -> u64
-    ensures { λ r. ⌜ ((i : ℕ) → inside i ≡ true → marks r i ≡ only n i) ⌝ }
+    ensures { λ r. ⌜ ((i : ℕ) → isSource i ≡ true → contains r i ≡ only n i) ⌝ }
 {
     if n < 64 {
         return 1 << n;
@@ -72,7 +72,7 @@ pub fn one(n: u64) -> u64
 
 // The lowest number of 1 to 63 that is in x, or 64.
 pub fn first_of(x: u64) -> u64
-    ensures { λ r. ⌜ r ≡ lowest 63 1 (marks x) ⌝ }
+    ensures { λ r. ⌜ r ≡ lowest 63 1 (contains x) ⌝ }
 {
     u64::trailing_zeros(x / 2 * 2) as u64
 }
@@ -94,7 +94,7 @@ pub fn drop_first(x: u64) -> u64
 
 // Every number, or none.
 pub fn every(on: bool) -> u64
-    ensures { λ r. ⌜ ((i : ℕ) → inside i ≡ true → marks r i ≡ on) ⌝ }
+    ensures { λ r. ⌜ ((i : ℕ) → isSource i ≡ true → contains r i ≡ on) ⌝ }
 {
     if on {
         return 0xffff_ffff_ffff_ffff;

@@ -22,13 +22,13 @@ abbrev pub p6 : List ℕ
 p6 = window 0x10000483 0x100000000A000005
 
 -- a message of device 0 in a window, under a directory of one level
-abbrev pub sent : List ℕ → Access → ℕ → ℕ → Answer
-sent bytes x a d = requestOf (inMode 2) bytes (ask 0 Absent x a) d
+abbrev pub sends : List ℕ → Access → ℕ → ℕ → Answer
+sends bytes x a d = requestOf (inMode 2) bytes (ask 0 Absent x a) d
 
 -- a write under P6's entry: its answer, and byte k of the file 0x40001200 before and after
 abbrev pub wrote : ℕ → ℕ → ℕ → List ℕ
 wrote a d k =
-    shown (sent p6 Write a d)
+    shown (sends p6 Write a d)
     ++ (getD p6 (0x1200 + k) 0 ∷ getD (afterRequest (inMode 2) p6 (ask 0 Absent Write a) d) (0x1200 + k) 0 ∷ [])
 
 unfoldable pub table : List Row
@@ -37,7 +37,7 @@ table =
     ∷ row 2 (extract 181 0 ∷ []) (0 ∷ [])
     ∷ row 3 (one (recognised 3 0x80004 0x80006123) ∷ fileNumber 3 0x80006123 ∷ []) (1 ∷ 2 ∷ [])
     ∷ row 4 (one (recognised 3 0x80004 0x80008000) ∷ []) (0 ∷ [])
-    ∷ row 5 (shown (sent p5 Read 0x80006000 0)) (1 ∷ 0x28001000 ∷ 0 ∷ 0 ∷ [])
+    ∷ row 5 (shown (sends p5 Read 0x80006000 0)) (1 ∷ 0x28001000 ∷ 0 ∷ 0 ∷ [])
     ∷ row 6 (wrote 0x80006000 37 4) (2 ∷ 0x40001200 ∷ 0x28000000 ∷ 1029 ∷ 0 ∷ 32 ∷ [])
     ∷ row 7 (identityOf (ask 0 Absent Write 0x80006004) 620756992 ∷ wrote 0x80006004 620756992 4)
     (37 ∷ 2 ∷ 0x40001200 ∷ 0x28000000 ∷ 1029 ∷ 0 ∷ 32 ∷ [])
@@ -52,6 +52,6 @@ table =
     (directoryIndex Process 0x2A5C3 0 ∷ directoryIndex Process 0x2A5C3 1 ∷ directoryIndex Process 0x2A5C3 2
     ∷ shown (requestOf (inMode 2) p5 (ask 1 (Given 0x2A5C3) Read 0) 0))
     (195 ∷ 165 ∷ 1 ∷ 4 ∷ 260 ∷ 0 ∷ 0 ∷ 0 ∷ [])
-    ∷ row 13 (shown (sent (window 0xA000405 0) Read 0x80006000 0)) (4 ∷ 263 ∷ 0 ∷ 0 ∷ 4 ∷ [])
-    ∷ row 14 (shown (sent p5 Execute 0x80006000 0)) (4 ∷ 1 ∷ 0 ∷ 0 ∷ 4 ∷ [])
+    ∷ row 13 (shown (sends (window 0xA000405 0) Read 0x80006000 0)) (4 ∷ 263 ∷ 0 ∷ 0 ∷ 4 ∷ [])
+    ∷ row 14 (shown (sends p5 Execute 0x80006000 0)) (4 ∷ 1 ∷ 0 ∷ 0 ∷ 4 ∷ [])
     ∷ []

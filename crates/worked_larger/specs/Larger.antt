@@ -65,21 +65,21 @@ stage n = pick (eqb n 0) 0 ((7 + n) * 2 ^ 60 + 0x40004)
 abbrev contextOf : ℕ → ℕ → List ℕ
 contextOf first second = 1 ∷ stage second ∷ 0 ∷ stage first ∷ 0 ∷ 0 ∷ 0 ∷ 0 ∷ []
 
-abbrev contexts : ℕ → List ℕ
-contexts first = contextOf first 0 ++ (contextOf first 1 ++ (contextOf first 2 ++ contextOf first 3))
+abbrev contextsOf : ℕ → List ℕ
+contextsOf first = contextOf first 0 ++ (contextOf first 1 ++ (contextOf first 2 ++ contextOf first 3))
 
 -- the contexts' page, and a table of four pages: entries 0, 255, 256 and 2047 map the page at 0, of the root's level; entry 1 maps the 1 GiB where the table lies
 unfoldable pub tables : List ℕ
 unfolding words
 tables =
-    words (contexts 0 ++ (contexts 1 ++ (contexts 2 ++ contexts 3)))
+    words (contextsOf 0 ++ (contextsOf 1 ++ (contextsOf 2 ++ contextsOf 3)))
     ++ (replicate (4096 - 1024) 0
     ++ (words (0xDF ∷ 0x100000DF ∷ [])
     ++ (replicate (8 * 253) 0 ++ (words (0xDF ∷ 0xDF ∷ []) ++ (replicate (8 * 1790) 0 ++ words (0xDF ∷ []))))))
 
 -- the answer to a read of one byte, by the schemes of both stages
-abbrev answer : ℕ → ℕ → ℕ → List ℕ
-answer first second a =
+abbrev readAt : ℕ → ℕ → ℕ → List ℕ
+readAt first second a =
     shown
     (requestOf
     (record { start = 0x40003000; mode = 2; root = 0x40003 })
@@ -94,8 +94,8 @@ answer first second a =
     })
     0)
 
-abbrev reaches : ℕ → List ℕ
-reaches a = 0 ∷ a ∷ 0 ∷ 0 ∷ []
+abbrev translated : ℕ → List ℕ
+translated a = 0 ∷ a ∷ 0 ∷ 0 ∷ []
 
 -- a page fault of the first stage, and a guest page fault of the second
 abbrev first-fault : List ℕ
@@ -106,7 +106,7 @@ guest-fault = 4 ∷ 21 ∷ 0 ∷ 0 ∷ 3 ∷ []
 
 -- an address that the first stage's root entry 255 leads to guest address g, under each second stage
 abbrev pairs : ℕ → ℕ → ℕ → List ℕ
-pairs first bits g = answer first 1 (255 * 2 ^ bits + g) ++ (answer first 2 (255 * 2 ^ bits + g) ++ answer first 3 (255 * 2 ^ bits + g))
+pairs first bits g = readAt first 1 (255 * 2 ^ bits + g) ++ (readAt first 2 (255 * 2 ^ bits + g) ++ readAt first 3 (255 * 2 ^ bits + g))
 
 unfoldable pub larger : List Row
 larger =  -- "2^38 and 2^41 there bind only the old schemes": each scheme has its own limit
@@ -135,16 +135,16 @@ larger =  -- "2^38 and 2^41 there bind only the old schemes": each scheme has it
     ∷ row 19 (large 3 (2 ^ 27) ∷ large 3 (2 ^ 26) ∷ []) ((2 ^ 40 - 1) ∷ 21 ∷ [])
     ∷ row 20 (large 4 (2 ^ 36) ∷ large 4 (2 ^ 35) ∷ []) ((2 ^ 49 - 1) ∷ 21 ∷ [])
     -- the limits through the whole request, one stage alone
-    ∷ row 21 (answer 1 0 (2 ^ 38 - 1) ++ answer 1 0 (2 ^ 38)) (reaches (2 ^ 30 - 1) ++ first-fault)
-    ∷ row 22 (answer 2 0 (2 ^ 47 - 1) ++ answer 2 0 (2 ^ 47)) (reaches (2 ^ 39 - 1) ++ first-fault)
-    ∷ row 23 (answer 3 0 (2 ^ 56 - 1) ++ answer 3 0 (2 ^ 56)) (reaches (2 ^ 48 - 1) ++ first-fault)
-    ∷ row 24 (answer 3 0 (2 ^ 64 - 2 ^ 56 - 1) ++ answer 3 0 (2 ^ 64 - 2 ^ 56)) (first-fault ++ reaches 0)
-    ∷ row 25 (answer 0 1 (2 ^ 41 - 1) ++ answer 0 1 (2 ^ 41)) (reaches (2 ^ 30 - 1) ++ guest-fault)
-    ∷ row 26 (answer 0 2 (2 ^ 50 - 1) ++ answer 0 2 (2 ^ 50)) (reaches (2 ^ 39 - 1) ++ guest-fault)
-    ∷ row 27 (answer 0 3 (2 ^ 59 - 1) ++ answer 0 3 (2 ^ 59)) (reaches (2 ^ 48 - 1) ++ guest-fault)
+    ∷ row 21 (readAt 1 0 (2 ^ 38 - 1) ++ readAt 1 0 (2 ^ 38)) (translated (2 ^ 30 - 1) ++ first-fault)
+    ∷ row 22 (readAt 2 0 (2 ^ 47 - 1) ++ readAt 2 0 (2 ^ 47)) (translated (2 ^ 39 - 1) ++ first-fault)
+    ∷ row 23 (readAt 3 0 (2 ^ 56 - 1) ++ readAt 3 0 (2 ^ 56)) (translated (2 ^ 48 - 1) ++ first-fault)
+    ∷ row 24 (readAt 3 0 (2 ^ 64 - 2 ^ 56 - 1) ++ readAt 3 0 (2 ^ 64 - 2 ^ 56)) (first-fault ++ translated 0)
+    ∷ row 25 (readAt 0 1 (2 ^ 41 - 1) ++ readAt 0 1 (2 ^ 41)) (translated (2 ^ 30 - 1) ++ guest-fault)
+    ∷ row 26 (readAt 0 2 (2 ^ 50 - 1) ++ readAt 0 2 (2 ^ 50)) (translated (2 ^ 39 - 1) ++ guest-fault)
+    ∷ row 27 (readAt 0 3 (2 ^ 59 - 1) ++ readAt 0 3 (2 ^ 59)) (translated (2 ^ 48 - 1) ++ guest-fault)
     -- each pair of schemes; under both, the guest address has the second's limit
-    ∷ row 28 (pairs 1 30 0x1234) (reaches 0x1234 ++ (reaches 0x1234 ++ reaches 0x1234))
-    ∷ row 29 (pairs 2 39 0x1234) (reaches 0x1234 ++ (reaches 0x1234 ++ reaches 0x1234))
-    ∷ row 30 (pairs 3 48 0x1234) (reaches 0x1234 ++ (reaches 0x1234 ++ reaches 0x1234))
-    ∷ row 31 (pairs 3 48 (2 ^ 47 + 0x1234)) (guest-fault ++ (reaches 0x1234 ++ reaches (2 ^ 47 + 0x1234)))
+    ∷ row 28 (pairs 1 30 0x1234) (translated 0x1234 ++ (translated 0x1234 ++ translated 0x1234))
+    ∷ row 29 (pairs 2 39 0x1234) (translated 0x1234 ++ (translated 0x1234 ++ translated 0x1234))
+    ∷ row 30 (pairs 3 48 0x1234) (translated 0x1234 ++ (translated 0x1234 ++ translated 0x1234))
+    ∷ row 31 (pairs 3 48 (2 ^ 47 + 0x1234)) (guest-fault ++ (translated 0x1234 ++ translated (2 ^ 47 + 0x1234)))
     ∷ []

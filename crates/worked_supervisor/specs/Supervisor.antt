@@ -33,12 +33,12 @@ asks supervisor sum u x =
       length = 4;
     }
 
-abbrev answer : Bool → Bool → Bool → Access → List ℕ
-answer supervisor sum u x = shown (requestOf (inMode 2) bytes (asks supervisor sum u x) 0)
+abbrev answerTo : Bool → Bool → Bool → Access → List ℕ
+answerTo supervisor sum u x = shown (requestOf (inMode 2) bytes (asks supervisor sum u x) 0)
 
 -- translated, to the page with this U
-abbrev reaches : Bool → List ℕ
-reaches u = 0 ∷ pick u 0xC0001234 0x80001234 ∷ 0 ∷ 0 ∷ []
+abbrev admitted : Bool → List ℕ
+admitted u = 0 ∷ pick u 0xC0001234 0x80001234 ∷ 0 ∷ 0 ∷ []
 
 -- a page fault of the first stage
 abbrev barred : ℕ → List ℕ
@@ -46,30 +46,30 @@ barred cause = 4 ∷ cause ∷ 0 ∷ 0 ∷ 2 ∷ []
 
 unfoldable pub supervisors : List Row
 supervisors =  -- a supervisor without SUM: its own pages, U = 0
-    row 1 (answer true false false Read) (reaches false)
-    ∷ row 2 (answer true false false Write) (reaches false)
-    ∷ row 3 (answer true false false Execute) (reaches false)
-    ∷ row 4 (answer true false true Read) (barred 13)
-    ∷ row 5 (answer true false true Write) (barred 15)
-    ∷ row 6 (answer true false true Execute) (barred 12)
+    row 1 (answerTo true false false Read) (admitted false)
+    ∷ row 2 (answerTo true false false Write) (admitted false)
+    ∷ row 3 (answerTo true false false Execute) (admitted false)
+    ∷ row 4 (answerTo true false true Read) (barred 13)
+    ∷ row 5 (answerTo true false true Write) (barred 15)
+    ∷ row 6 (answerTo true false true Execute) (barred 12)
     -- under SUM: user pages too, "read-for-execute stays barred"
-    ∷ row 7 (answer true true false Read) (reaches false)
-    ∷ row 8 (answer true true false Write) (reaches false)
-    ∷ row 9 (answer true true false Execute) (reaches false)
-    ∷ row 10 (answer true true true Read) (reaches true)
-    ∷ row 11 (answer true true true Write) (reaches true)
-    ∷ row 12 (answer true true true Execute) (barred 12)
+    ∷ row 7 (answerTo true true false Read) (admitted false)
+    ∷ row 8 (answerTo true true false Write) (admitted false)
+    ∷ row 9 (answerTo true true false Execute) (admitted false)
+    ∷ row 10 (answerTo true true true Read) (admitted true)
+    ∷ row 11 (answerTo true true true Write) (admitted true)
+    ∷ row 12 (answerTo true true true Execute) (barred 12)
     -- a user, whatever SUM is: U = 1
-    ∷ row 13 (answer false false false Read) (barred 13)
-    ∷ row 14 (answer false false false Write) (barred 15)
-    ∷ row 15 (answer false false false Execute) (barred 12)
-    ∷ row 16 (answer false false true Read) (reaches true)
-    ∷ row 17 (answer false false true Write) (reaches true)
-    ∷ row 18 (answer false false true Execute) (reaches true)
-    ∷ row 19 (answer false true false Read) (barred 13)
-    ∷ row 20 (answer false true false Write) (barred 15)
-    ∷ row 21 (answer false true false Execute) (barred 12)
-    ∷ row 22 (answer false true true Read) (reaches true)
-    ∷ row 23 (answer false true true Write) (reaches true)
-    ∷ row 24 (answer false true true Execute) (reaches true)
+    ∷ row 13 (answerTo false false false Read) (barred 13)
+    ∷ row 14 (answerTo false false false Write) (barred 15)
+    ∷ row 15 (answerTo false false false Execute) (barred 12)
+    ∷ row 16 (answerTo false false true Read) (admitted true)
+    ∷ row 17 (answerTo false false true Write) (admitted true)
+    ∷ row 18 (answerTo false false true Execute) (admitted true)
+    ∷ row 19 (answerTo false true false Read) (barred 13)
+    ∷ row 20 (answerTo false true false Write) (barred 15)
+    ∷ row 21 (answerTo false true false Execute) (barred 12)
+    ∷ row 22 (answerTo false true true Read) (admitted true)
+    ∷ row 23 (answerTo false true true Write) (admitted true)
+    ∷ row 24 (answerTo false true true Execute) (admitted true)
     ∷ []

@@ -4,4 +4,4 @@ use Rattle.aplic.proofs.mode_number.Statement.{statement}
 use Rattle.aplic.proofs.mode_number.Tie as tie
 
 pub mode-number-spec : {M : Type 1} → statement M
-mode-number-spec = tie.close (tie.spec (λ c κs. search needs) (λ c κs. search needs) (λ c. search (mode-number, needs)))
+mode-number-spec = tie.close (tie.spec (λ c κs. search needs) (λ c κs. tt) (λ c. search (mode-number, needs)))

@@ -19,7 +19,7 @@ pub read-idc-spec : {M : Type 1} → statement M
 read-idc-spec =
     tie.close
     (tie.spec
-    (λ c κs. search needs)
+    (λ c κs. tt)
     (λ c. search needs)
     (λ c κs. search (knowing, needs))
     (λ c. search needs)

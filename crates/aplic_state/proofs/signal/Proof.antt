@@ -9,7 +9,7 @@ signal-spec =
     (tie.spec
     (λ c κs. search needs)
     (λ c κs. search needs)
-    (λ c κs. search needs)
+    (λ c κs. tt)
     (λ c κs. search needs)
     (λ c. search (signals, needs))
     (λ c κs. search needs)

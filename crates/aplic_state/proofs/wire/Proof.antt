@@ -9,8 +9,8 @@ wire-spec =
     (tie.spec
     (λ c κs. search needs)
     (λ c κs. search needs)
-    (λ c κs. search needs)
-    (λ c κs. search needs)
+    (λ c κs. tt)
+    (λ c κs. tt)
     (λ c κs. search needs)
     (λ c. search needs)
     (λ c. search (wire-goes, beyond, needs)))

@@ -8,9 +8,9 @@ write-hart-spec =
     tie.close
     (tie.spec
     (λ c κs. search needs)
+    (λ c κs. tt)
     (λ c κs. search needs)
-    (λ c κs. search needs)
-    (λ c κs. search needs)
+    (λ c κs. tt)
     (λ c κs. search needs)
     (λ c. search needs)
     (λ c. search (hart-writes, beyond, needs))

@@ -1,6 +1,7 @@
-use Rattle.capi_aplic.proofs.Wired.{sent-ways}
+use Rattle.capi_aplic.proofs.Wired.{sent-by}
 use native.Mathlib.Omega.{arith}
 use lib.ListN.{length-set}
+use Rattle.capi_aplic.specs.Wired.{withSent}
 use borrow.Author.Needs.{needs}
 use Rattle.capi_aplic.proofs.put_sent.Statement.{statement}
 use Rattle.capi_aplic.proofs.put_sent.Tie as tie
@@ -16,6 +17,14 @@ slice-write-out-6 c = simp length-set (omega arith)
 
 slice-write-out-7 : tie.Need-slice-write-out-7
 slice-write-out-7 c = simp length-set (omega arith)
+
+returns : tie.Need-returns
+unfolding withSent
+returns c = search (sent-by, needs)
+
+returns-2 : tie.Need-returns-2
+unfolding withSent
+returns-2 c = search (sent-by, needs)
 
 pub put-sent-spec : {M : Type 1} → statement M
 put-sent-spec =
@@ -35,6 +44,6 @@ put-sent-spec =
     (λ c. search needs)
     (λ c. search needs)
     (λ c. search needs)
-    (λ c. search (sent-ways, needs))
+    returns
     (λ c. search needs)
-    (λ c. search (sent-ways, needs)))
+    returns-2)

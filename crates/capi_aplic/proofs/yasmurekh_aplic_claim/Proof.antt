@@ -23,7 +23,7 @@ yasmurekh-aplic-claim-spec =
     (tie.spec
     returns
     returns-2
-    (λ c κs. search needs)
+    (λ c κs. tt)
     (λ c κs. search (below-of, needs))
     (λ c. search needs)
     (λ c. search needs)

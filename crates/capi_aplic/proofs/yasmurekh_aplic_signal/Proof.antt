@@ -23,9 +23,9 @@ yasmurekh-aplic-signal-spec =
     (tie.spec
     returns
     returns-2
-    (λ c κs. search needs)
+    (λ c κs. tt)
     (λ c κs. search (below-of, needs))
-    (λ c κs. search needs)
+    (λ c κs. tt)
     (λ c. search needs)
     (λ c. search needs)
     (λ c. search needs)

@@ -16,4 +16,4 @@ returns-3 c = (search (state-long, needs), (search (left-refused, needs), (refl,
 pub yasmurekh-aplic-wire-spec : {M : Type 1} → statement M
 yasmurekh-aplic-wire-spec =
     tie.close
-    (tie.spec returns (λ c κs. search needs) (λ c κs. search needs) (λ c. search needs) returns-2 returns-3)
+    (tie.spec returns (λ c κs. tt) (λ c κs. search needs) (λ c. search needs) returns-2 returns-3)

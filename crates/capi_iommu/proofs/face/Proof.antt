@@ -8,12 +8,12 @@ pub face-spec : {M : Type 1} → statement M
 face-spec =
     tie.close
     (tie.spec
-    (λ c κs. search needs)
+    (λ c κs. tt)
     (λ c. search needs)
     (λ c. search needs)
     (λ c. search (face-ways, needs))
     (λ c. search (face-ways, needs))
-    (λ c κs. search needs)
-    (λ c κs. search needs)
+    (λ c κs. tt)
+    (λ c κs. tt)
     (λ c. search needs)
     (λ c. search (face-ways, needs)))

@@ -50,7 +50,7 @@ put-pairs-spec =
     (λ c. search needs)
     (λ c. search needs)
     slice-write-out-2
-    (λ c κs. search needs)
+    (λ c κs. tt)
     (λ c. search needs)
     (λ c. search needs)
     (λ c. search needs)

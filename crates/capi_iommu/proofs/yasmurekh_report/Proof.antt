@@ -8,6 +8,9 @@ use Rattle.capi_iommu.proofs.Spans.{put-length, long-report}
 use Rattle.capi_iommu.proofs.yasmurekh_report.Statement.{statement}
 use Rattle.capi_iommu.proofs.yasmurekh_report.Tie as tie
 
+put-pairs-requires : tie.Need-put-pairs-requires
+put-pairs-requires c κs = (omega arith, omega arith, simp length-set (omega arith))
+
 slice-write-out-2 : tie.Need-slice-write-out-2
 slice-write-out-2 c = omega (arith, simp length-set at (put-length _ _ _ (c .before .before .put-pairs .ensures .1)))
 
@@ -19,10 +22,10 @@ yasmurekh-report-spec =
     tie.close
     (tie.spec
     (λ c. search (buffer-ways, needs))
-    (λ c κs. search needs)
+    (λ c κs. tt)
     (λ c κs. search needs)
     (λ c. search needs)
-    (λ c κs. search needs)
+    put-pairs-requires
     slice-write-out-2
     same-length
     (λ c. search (buffer-ways, long-report, needs)))

@@ -23,4 +23,4 @@ returns-2 c =
 pub yasmurekh-request-spec : {M : Type 1} → statement M
 yasmurekh-request-spec =
     tie.close
-    (tie.spec returns (λ c κs. search needs) (λ c κs. search needs) (λ c. search needs) (λ c. search needs) returns-2)
+    (tie.spec returns (λ c κs. tt) (λ c κs. search needs) (λ c. search needs) (λ c. search needs) returns-2)

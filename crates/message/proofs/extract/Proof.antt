@@ -8,4 +8,4 @@ returns : tie.Need-returns
 returns c = let e = c .pack .ensures .0 in (e, rw e (extract-below _ _))
 
 pub extract-spec : {M : Type 1} → statement M
-extract-spec = tie.close (tie.spec (λ c κs. search needs) returns)
+extract-spec = tie.close (tie.spec (λ c κs. tt) returns)

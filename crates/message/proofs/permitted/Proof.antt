@@ -7,4 +7,4 @@ use Rattle.message.proofs.permitted.Tie as tie
 pub permitted-spec : {M : Type 1} → statement M
 permitted-spec =
     tie.close
-    (tie.spec (λ c. search needs) (λ c κs. search needs) (λ c. search needs) (λ c. search needs) (λ c. search (by-access, needs)) (λ c. search needs) (λ c. search needs))
+    (tie.spec (λ c. search needs) (λ c κs. tt) (λ c. search needs) (λ c. search needs) (λ c. search (by-access, needs)) (λ c. search needs) (λ c. search needs))

@@ -9,9 +9,9 @@ is-signalled-spec =
     (tie.spec
     (λ c. search needs)
     (λ c. search needs)
-    (λ c κs. search needs)
-    (λ c κs. search needs)
+    (λ c κs. tt)
+    (λ c κs. tt)
     (λ c. search (signals, needs))
-    (λ c κs. search needs)
+    (λ c κs. tt)
     (λ c. search (signals, needs))
     (λ c. search (signals, needs)))

@@ -17,16 +17,16 @@ top-spec =
     (tie.spec
     Inv-loop
     μ-loop
-    (λ c κs. search (tops, needs))
-    (λ c κs. search (tops, needs))
-    (λ c κs. search (tops, needs))
+    (λ c κs. tt)
+    (λ c κs. tt)
+    (λ c κs. tt)
     (λ c. search (tops, needs))
     (λ c. search (tops, needs))
     (λ c. search (tops, needs))
     (λ c κs. search (tops, needs))
     (λ c κs. search (tops, needs))
-    (λ c κs. search (tops, needs))
+    (λ c κs. tt)
     (λ c. search (tops, needs))
     (λ c. search (tops, needs))
-    (λ c κs. search (tops, needs))
+    (λ c κs. tt)
     (λ c. search (tops, needs)))

@@ -5,4 +5,4 @@ use Rattle.aplic.proofs.Domain.wire.Tie as tie
 
 pub wire-spec : {M : Type 1} → statement M
 wire-spec =
-    tie.close (tie.spec (λ c κs. search needs) (λ c κs. search needs) (λ c κs. search needs) (λ c. search (wires, needs)) (λ c. search (wires, needs)))
+    tie.close (tie.spec (λ c κs. tt) (λ c κs. tt) (λ c κs. tt) (λ c. search (wires, needs)) (λ c. search (wires, needs)))

@@ -8,7 +8,7 @@ pub write-idc-spec : {M : Type 1} → statement M
 write-idc-spec =
     tie.close
     (tie.spec
-    (λ c κs. search needs)
+    (λ c κs. tt)
     (λ c. search needs)
     (λ c κs. search (idc-writes, knowing, needs))
     (λ c. search needs)
