@@ -11,11 +11,13 @@ use iommu_refusals::Settings;
 use message::Destination;
 use message::Message;
 use paging::PageTable;
+use paging::Pages;
 use paging::Translation;
 ghost use mathlib.Core.Path.{_≡_};
 ghost use Prim.Native.Nat.{_<_, _^_};
 ghost use Rattle.memory.specs.Window.{memory};
 ghost use Rattle.memory.specs.Walk.{run};
+ghost use Rattle.paging.specs.Entry.{pagesFor};
 ghost use Rattle.directory_context.specs.Code.{SoundContext};
 ghost use Rattle.iommu_translation.specs.Translate.{untranslated as untranslatedOf, onMessage, onSecond, isMessage, guestOf, stagesOf, onDevice, directoryOf, translateOf};
 
@@ -81,6 +83,14 @@ fn guest(c: DecodedContext, q: DeviceRequest, start: u64, window: &[u8], a: u64)
     on_second(paging::last_stage(g, x, start, window, a))
 }
 
+// The first-stage pages that a request may use, with SUM.
+fn pages_of(q: DeviceRequest, sum: bool) -> Pages
+    ensures { λ r. ⌜ r ≡ pagesFor (q .supervisor) sum (q .access) ⌝ }
+{
+    let x = q.access;
+    paging::pages_for(q.supervisor, sum, x)
+}
+
 // Both stages, with the first stage's table and SUM.
 fn stages(
     c: DecodedContext,
@@ -96,7 +106,7 @@ fn stages(
     let x = q.access;
     let g = c.second;
     if f.on | g.on {
-        let pages = paging::pages_for(q.supervisor, sum, x);
+        let pages = pages_of(q, sum);
         let t = paging::first_stage(f, g, x, pages, start, window, q.address);
         let Translation::To(a) = t else {
             return on_second(t);
