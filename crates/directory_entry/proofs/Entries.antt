@@ -10,7 +10,6 @@ use Rattle.memory.specs.Bits.{bits, bit, anySet}
 use Rattle.memory.specs.declared.Load.{Load}
 use Rattle.memory.specs.declared.Load.the-variants.{Value, Violation}
 use Rattle.memory.specs.Walk.{Walk, done, onValue, run}
-use Rattle.memory.proofs.Choices.{yes-by, no-by}
 use Rattle.memory.proofs.Tests.{or2}
 use Rattle.memory.proofs.Walks.{loads, at}
 use Rattle.causes.specs.declared.FaultInfo.{FaultInfo}
@@ -52,23 +51,21 @@ wide-by t levels id i j hi hj = simp (hi, hj)
 module _ (t : Tree) (v : Load) (f : FaultInfo) where
   pub entry-unread : v ≡ Violation → f ≡ loadFault t → Fault f ≡ pointerOf t v
   unfolding pointerOf
-  entry-unread e h = ap Fault h ∙ sym (ap (pointerOf t) e)
+  entry-unread e h = simp (e, h)
 
 module _ (t : Tree) (v : Load) (e : ℕ) (he : v ≡ Value e) (b : Bool) (hb : b ≡ bit e 0) where
   pub entry-invalid : (f : FaultInfo) → not b ≡ true → f ≡ invalid t → Fault f ≡ pointerOf t v
   unfolding pointerOf
-  entry-invalid f s h = no-by _ b _ _ _ hb (not-true b s) (ap Fault h) ∙ sym (ap (pointerOf t) he)
+  entry-invalid f s h = simp (he, ← hb, not-true b s, h)
 
   module _ (x y : Bool) (hx : x ≡ anySet e 9 1) (hy : y ≡ anySet e 63 54) (s : not b ≡ false) where
     pub entry-wrong : (f : FaultInfo) → (x || y) ≡ true → f ≡ misconfigured t → Fault f ≡ pointerOf t v
     unfolding pointerOf
-    entry-wrong f w h =
-        yes-by _ b _ _ _ hb (not-false b s) (yes-by _ (x || y) _ _ _ (or2 hx hy) w (ap Fault h)) ∙ sym (ap (pointerOf t) he)
+    entry-wrong f w h = simp (he, ← hb, not-false b s, sym (or2 hx hy) ∙ w, h)
 
     pub entry-points : (n : ℕ) → (x || y) ≡ false → n ≡ bits e 53 10 → To (n * 4096) ≡ pointerOf t v
     unfolding pointerOf
-    entry-points n w h =
-        yes-by _ b _ _ _ hb (not-false b s) (no-by _ (x || y) _ _ _ (or2 hx hy) w (ap (λ k. To (k * 4096)) h)) ∙ sym (ap (pointerOf t) he)
+    entry-points n w h = simp (he, ← hb, not-false b s, sym (or2 hx hy) ∙ w, ← h)
 
 pub entry-below : (e n : ℕ) → n ≡ bits e 53 10 → n * 4096 < 2 ^ 56
 entry-below e n h = omega arith

@@ -181,13 +181,13 @@ fn first_scheme(mode: u64) -> Scheme
     Scheme::Sv39
 }
 
-fn second_scheme(mode: u64) -> Scheme
-    ensures { λ r. ⌜ (r ≡ secondScheme mode) × (signedOf r ≡ false) ⌝ }
+fn second_scheme(guest: u64) -> Scheme
+    ensures { λ r. ⌜ (r ≡ secondScheme guest) × (signedOf r ≡ false) ⌝ }
 {
-    if mode == 10 {
+    if guest == 10 {
         return Scheme::Sv57x4;
     }
-    if mode == 9 {
+    if guest == 9 {
         return Scheme::Sv48x4;
     }
     Scheme::Sv39x4

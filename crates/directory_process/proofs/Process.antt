@@ -49,10 +49,10 @@ module _ (s : Bool) (c : ProcessContext) (q : Bool) (hq : q ≡ processMisconfig
     pub process-refused : (d : FaultInfo) → (s && not n) ≡ true → d ≡ disallowed → Fault d ≡ checkedProcess s c
     process-refused d t h = supervised t (ap Fault h)
 
-    pub process-given : (t : PageTable) (v : Bool) → (s && not n) ≡ false → t ≡ firstTable (c .fsc) → v ≡ bit (c .ta) 2 → Use t v ≡ checkedProcess s c
-    process-given t v u h w = supervised u (ap (λ (y : PageTable). Use y v) h ∙ ap (Use (firstTable (c .fsc))) w)
+    pub process-passes : (t : PageTable) (v : Bool) → (s && not n) ≡ false → t ≡ firstTable (c .fsc) → v ≡ bit (c .ta) 2 → Use t v ≡ checkedProcess s c
+    process-passes t v u h w = supervised u (ap (λ (y : PageTable). Use y v) h ∙ ap (Use (firstTable (c .fsc))) w)
 
-pub ruleset process-checked-ways = (process-wrong, process-refused, process-given)
+pub ruleset process-checked-ways = (process-wrong, process-refused, process-passes)
 
 -- the ways out of reading a context
 module _ (s : Bool) (a ta : ℕ) where

@@ -11,10 +11,13 @@ use Rattle.iommu_refusals.proofs.Bounds.{passed, stopped, take-in-window, take-
 use Rattle.iommu.specs.declared.Answer.the-variants.{Refused, Taken}
 use Rattle.iommu.specs.Files.{takeOf, afterTakeOf, reportOf}
 
+pub take-made : (start : ℕ) (bytes : List ℕ) (file n w : ℕ) → takeRefusal start (length bytes) file n ≡ 0 → w ≡ pendingOf start bytes file n → Taken w ≡ takeOf start bytes file n
+unfolding takeOf
+take-made start bytes file n w z e = passed _ Refused _ _ z (ap Taken e)
+
 module _ (start : ℕ) (bytes : List ℕ) (file n r : ℕ) (h : r ≡ takeRefusal start (length bytes) file n) where
-  pub take-made : (w : ℕ) → r ≡ 0 → w ≡ pendingOf start bytes file n → Taken w ≡ takeOf start bytes file n
-  unfolding takeOf
-  take-made w z e = passed _ Refused _ _ (sym h ∙ z) (ap Taken e)
+  pub take-passed : r ≡ 0 → takeRefusal start (length bytes) file n ≡ 0
+  take-passed z = sym h ∙ z
 
   pub take-refused : (r ≡ 0 → ⊥) → Refused r ≡ takeOf start bytes file n
   unfolding takeOf
@@ -28,7 +31,7 @@ module _ (start : ℕ) (bytes : List ℕ) (file n r : ℕ) (h : r ≡ takeRefusa
   unfolding afterTakeOf
   take-kept z = stopped r _ (λ k. bytes) _ _ h z refl
 
-pub ruleset take-ways = (take-made, take-refused, take-cleared, take-kept, take-in-window, take-identity)
+pub ruleset take-ways = (take-passed, take-refused, take-cleared, take-kept, take-in-window, take-identity)
 
 module _ (start : ℕ) (bytes : List ℕ) (file r : ℕ) (h : r ≡ reportRefusal start (length bytes) file) (x : Report) where
   pub report-made : r ≡ 0 → x ≡ fileReport bytes (file - start) → x ≡ reportOf start bytes file

@@ -9,6 +9,7 @@ use lib.ListN.{length}
 use borrow.Author.Tests.{eq-eqb, ne-eqb, leb-true}
 use Rattle.memory.specs.Window.{memory}
 use Rattle.memory.specs.Walk.{run}
+use Rattle.memory.proofs.Choices.{pick-same}
 use Rattle.causes.specs.declared.FaultInfo.{FaultInfo}
 use Rattle.interrupt_file.specs.File.{isFile, afterStore}
 use Rattle.message.specs.declared.Destination.{Destination}
@@ -29,8 +30,6 @@ identity-reversed q d r h e = e ∙ simp h
 
 pub identity-plain : (q : DeviceRequest) (d : ℕ) → (q .address % 4096 ≡ 4 → ⊥) → d ≡ identityOf q d
 identity-plain q d h = simp (ne-eqb (q .address % 4096) 4 h)
-
-pub ruleset identity-ways = (identity-reversed, identity-plain)
 
 -- storable
 module _ (q : DeviceRequest) (n : ℕ) (w : Bool) (h : w ≡ isWrite (q .access)) where
@@ -75,8 +74,13 @@ module _ (start : ℕ) (bytes : List ℕ) (q : DeviceRequest) (value n : ℕ) (d
     unfolding finish
     record-stores o = simp (← hn, ← hs, t, ← hf, o)
 
-  pub record-bytes : (after : List ℕ) → after ≡ afterStore start bytes (d .file) n → after ≡ storedBy start bytes q value (Stored d)
-  record-bytes after e = e ∙ ap (afterStore start bytes (d .file)) hn
+-- the bytes after a store of identity k, where j is the message's
+pub record-bytes : (start : ℕ) (bytes : List ℕ) (file k j : ℕ) (after : List ℕ) → after ≡ afterStore start bytes file k → k ≡ j → after ≡ afterStore start bytes file j
+record-bytes start bytes file k j after e h = e ∙ ap (afterStore start bytes file) h
+
+-- a number that the code gives is the definition's
+pub of-number : {A : Type 0} (f : ℕ → A) {x : A} {n : ℕ} (k : ℕ) → f k ≡ x → n ≡ k → f n ≡ x
+of-number f k h e = ap f e ∙ h
 
 pub record-file : (start len file : ℕ) (f : Bool) → f ≡ isFile start len file → f ≡ true → isFile start len file ≡ true
 record-file start len file f h t = sym h ∙ t
@@ -84,7 +88,7 @@ record-file start len file f h t = sym h ∙ t
 pub record-low : (q : DeviceRequest) (n : ℕ) (s : Bool) → s ≡ storableAs q n → s ≡ true → n < 2048
 record-low q n s h t = storable-low q n (sym h ∙ t)
 
-pub ruleset record-ways = (record-discards, record-outside, record-stores, record-bytes, record-file, record-low)
+pub ruleset record-ways = (record-discards, record-outside, record-stores, record-file, record-low)
 
 -- the whole request
 module _ (s : Settings) (bytes : List ℕ) (q : DeviceRequest) (value r : ℕ) (hr : r ≡ requestRefusal s (length bytes) q) where
@@ -97,10 +101,16 @@ module _ (s : Settings) (bytes : List ℕ) (q : DeviceRequest) (value r : ℕ) (
   refused-bytes z = ap (storedBy (s .start) bytes q value) (request-refused z)
 
   module _ (z : r ≡ 0) (o : Outcome) (ho : o ≡ run (memory (s .start) bytes) (translateOf s q)) where
+    -- by the answer, so that whatever is done with one shows at its case
     pub request-finishes : (p : Outcome) (a : Answer) → o ≡ p → a ≡ finish (s .start) (length bytes) q value p → a ≡ requestOf s bytes q value
     unfolding requestOf
-    request-finishes p a e h =
-        passed _ Refused _ _ (sym hr ∙ z) (h ∙ ap (finish (s .start) (length bytes) q value) (sym e ∙ ho))
+    request-finishes p (Answer.Translated k) e h = passed _ Refused _ _ (sym hr ∙ z) (rw (← ho, e, ← h) refl)
+    request-finishes p (Answer.Redirected k) e h = passed _ Refused _ _ (sym hr ∙ z) (rw (← ho, e, ← h) refl)
+    request-finishes p (Stored n) e h = passed _ Refused _ _ (sym hr ∙ z) (rw (← ho, e, ← h) (search pick-same))
+    request-finishes p Discarded e h = passed _ Refused _ _ (sym hr ∙ z) (rw (← ho, e, ← h) refl)
+    request-finishes p (Answer.Fault k) e h = passed _ Refused _ _ (sym hr ∙ z) (rw (← ho, e, ← h) refl)
+    request-finishes p (Refused k) e h = passed _ Refused _ _ (sym hr ∙ z) (rw (← ho, e, ← h) refl)
+    request-finishes p (Answer.Taken k) e h = passed _ Refused _ _ (sym hr ∙ z) (rw (← ho, e, ← h) refl)
 
     -- an outcome that is no message to a file passes as it is, and changes nothing
     pub request-translates : (a : ℕ) → o ≡ Outcome.Translated a → Answer.Translated a ≡ requestOf s bytes q value

@@ -68,7 +68,8 @@ pub fn take(start: u64, window: &mut [u8], file: u64, identity: u64) -> Answer
 {
     let refusal = iommu_refusals::take_refusal(start, window.len() as u64, file, identity);
     if refusal == 0 {
-        return Answer::Taken(interrupt_file::take(start, window, file, identity));
+        let was = interrupt_file::take(start, window, file, identity);
+        return Answer::Taken(was);
     }
     Answer::Refused(refusal)
 }

@@ -7,11 +7,15 @@ use lib.Dec.{leb, ltb}
 use borrow.Author.Tests.{ne-eqb, lt-ltb, le-ltb, ltb-false, leb-false}
 use Rattle.memory.proofs.Choices.{ltb-same}
 use Rattle.directory_process.specs.declared.ProcessId.{ProcessId}
-use Rattle.directory_process.specs.declared.ProcessId.the-variants.{Given}
+use Rattle.directory_process.specs.declared.ProcessId.the-variants.{Absent, Given}
 use Rattle.interrupt_file.specs.File.{isFile}
 use Rattle.iommu_refusals.specs.declared.Settings.{Settings}
 use Rattle.iommu_refusals.specs.declared.DeviceRequest.{DeviceRequest}
 use Rattle.iommu_refusals.specs.Refusals.{badWindow, badDirectory, badProcess, absent, badLength, requestRefusal, takeRefusal, reportRefusal}
+
+-- a number that the code gives is the definition's
+pub is-number : {n r : ℕ} (k : ℕ) → k ≡ r → n ≡ k → n ≡ r
+is-number k h e = e ∙ h
 
 -- 2001
 module _ (start len : ℕ) where
@@ -54,6 +58,11 @@ length-some address len h =
 
 pub ruleset small-ways = (mode-high, root-off, process-is, length-none, length-some)
 
+unnamed-small : (s : Bool) (p : ProcessId) → (s && absent p) ≡ true → badProcess p ≡ false
+unnamed-small s Absent e = refl
+unnamed-small true (Given n) e = cc
+unnamed-small false (Given n) e = cc
+
 -- a request's checks in order: `bN` is the flag of check N
 module _ (s : Settings) (len : ℕ) (q : DeviceRequest) (b1 : Bool) (h1 : b1 ≡ badWindow (s .start) len) where
   pub refused-2001 : b1 ≡ true → 2001 ≡ requestRefusal s len q
@@ -70,17 +79,18 @@ module _ (s : Settings) (len : ℕ) (q : DeviceRequest) (b1 : Bool) (h1 : b1 ≡
       unfolding requestRefusal
       refused-2003 t = simp (← h1, o1, ← h2, o2, ← h3, t)
 
-      module _ (o3 : b3 ≡ false) (b4 : Bool) (h4 : b4 ≡ badProcess (q .process)) where
-        pub refused-2004 : b4 ≡ true → 2004 ≡ requestRefusal s len q
+      module _ (o3 : b3 ≡ false) where
+        -- a process that is absent isn't one whose number is too large
+        pub refused-2005 : (b5 : Bool) → b5 ≡ (q .supervisor && absent (q .process)) → b5 ≡ true → 2005 ≡ requestRefusal s len q
         unfolding requestRefusal
-        refused-2004 t = simp (← h1, o1, ← h2, o2, ← h3, o3, ← h4, t)
+        refused-2005 b5 h5 t = simp (← h1, o1, ← h2, o2, ← h3, o3, unnamed-small (q .supervisor) (q .process) (sym h5 ∙ t), ← h5, t)
 
-        module _ (o4 : b4 ≡ false) (b5 : Bool) (h5 : b5 ≡ (q .supervisor && absent (q .process))) where
-          pub refused-2005 : b5 ≡ true → 2005 ≡ requestRefusal s len q
+        module _ (b4 : Bool) (h4 : b4 ≡ badProcess (q .process)) where
+          pub refused-2004 : b4 ≡ true → 2004 ≡ requestRefusal s len q
           unfolding requestRefusal
-          refused-2005 t = simp (← h1, o1, ← h2, o2, ← h3, o3, ← h4, o4, ← h5, t)
+          refused-2004 t = simp (← h1, o1, ← h2, o2, ← h3, o3, ← h4, t)
 
-          module _ (o5 : b5 ≡ false) (b6 : Bool) (h6 : b6 ≡ badLength (q .address) (q .length)) where
+          module _ (o4 : b4 ≡ false) (b5 : Bool) (h5 : b5 ≡ (q .supervisor && absent (q .process))) (o5 : b5 ≡ false) (b6 : Bool) (h6 : b6 ≡ badLength (q .address) (q .length)) where
             pub refused-2006 : b6 ≡ true → 2006 ≡ requestRefusal s len q
             unfolding requestRefusal
             refused-2006 t = simp (← h1, o1, ← h2, o2, ← h3, o3, ← h4, o4, ← h5, o5, ← h6, t)

@@ -5,7 +5,7 @@ use mathlib.Core.Path.{_≡_, sym, ap, _∙_, subst}
 use borrow.Author.Tests.{lt-ltb, le-ltb, ne-eqb}
 use Rattle.memory.specs.declared.Load.{Load}
 use Rattle.memory.specs.Walk.{done, run}
-use Rattle.memory.proofs.Walks.{then, at}
+use Rattle.memory.proofs.Walks.{run-bind, then, at}
 use Rattle.causes.specs.Causes.{accessFault, faultAt, disallowed}
 use Rattle.causes.specs.declared.Access.{Access}
 use Rattle.causes.specs.declared.Stage.the-variants.{Directory}
@@ -68,16 +68,21 @@ module _ (c : DecodedContext) (a : ℕ) where
 
 pub ruleset message-ways = (no-table, by-pattern)
 
-module _ (m : ℕ → Load) (c : DecodedContext) (x : Access) (a : ℕ) (b : Bool) (h : b ≡ isMessage c a) (o : Outcome) where
-  pub guest-message : (r : Message) → b ≡ true → r ≡ run m (messageOf (c .page) (c .mask) x a) → o ≡ onMessage r → o ≡ run m (guestOf c x a)
-  unfolding guestOf
-  guest-message r t hr e = then m (messageOf (c .page) (c .mask) x a) (λ k. done (onMessage k)) hr e ∙ simp (← h, t)
+-- what the code found of an address is so of the guest's
+pub message-at : (c : DecodedContext) (k a : ℕ) (b v : Bool) → b ≡ isMessage c k → b ≡ v → k ≡ a → isMessage c a ≡ v
+message-at c k a b v h t e = sym (ap (isMessage c) e) ∙ sym h ∙ t
 
-  pub guest-second : (r : Translation) → b ≡ false → r ≡ run m (secondStageOf (c .second) SecondStage x a) → o ≡ onSecond r → o ≡ run m (guestOf c x a)
+module _ (m : ℕ → Load) (c : DecodedContext) (x : Access) (a : ℕ) (o : Outcome) where
+  -- by the message, so that whatever is done with one shows at its case
+  pub guest-message : isMessage c a ≡ true → (r : Message) → r ≡ run m (messageOf (c .page) (c .mask) x a) → o ≡ onMessage r → o ≡ run m (guestOf c x a)
   unfolding guestOf
-  guest-second r t hr e = then m (secondStageOf (c .second) SecondStage x a) (λ k. done (onSecond k)) hr e ∙ simp (← h, t)
+  guest-message t (Message.Fault f) hr e = rw (t, run-bind, ← hr) e
+  guest-message t (Message.Redirect b) hr e = rw (t, run-bind, ← hr) e
+  guest-message t (Message.Record d) hr e = rw (t, run-bind, ← hr) e
 
-pub ruleset guest-address-ways = (guest-message, guest-second)
+  pub guest-second : isMessage c a ≡ false → (r : Translation) → r ≡ run m (secondStageOf (c .second) SecondStage x a) → o ≡ onSecond r → o ≡ run m (guestOf c x a)
+  unfolding guestOf
+  guest-second t r hr e = then m (secondStageOf (c .second) SecondStage x a) (λ k. done (onSecond k)) hr e ∙ simp t
 
 -- both stages
 module _ (m : ℕ → Load) (c : DecodedContext) (q : DeviceRequest) (f : PageTable) (sum : Bool) where

@@ -11,12 +11,14 @@ use iommu_refusals::Settings;
 use message::Destination;
 use message::Message;
 use paging::PageTable;
+use paging_entry::Pages;
 use paging_entry::Purpose;
 use paging_entry::Translation;
 ghost use mathlib.Core.Path.{_≡_};
 ghost use Prim.Native.Nat.{_<_, _^_};
 ghost use Rattle.memory.specs.Window.{memory};
 ghost use Rattle.memory.specs.Walk.{run};
+ghost use Rattle.paging_entry.specs.Entry.{pagesFor};
 ghost use Rattle.directory_context.specs.Code.{SoundContext};
 ghost use Rattle.iommu_translation.specs.Translate.{untranslated as untranslatedOf, onMessage, onSecond, isMessage, guestOf, stagesOf, onDevice, directoryOf, translateOf};
 
@@ -82,6 +84,14 @@ fn guest(c: DecodedContext, q: DeviceRequest, start: u64, window: &[u8], a: u64)
     on_second(paging::second_stage(g, Purpose::SecondStage, x, start, window, a))
 }
 
+// The first-stage pages that a request may use, with SUM.
+fn pages_of(q: DeviceRequest, sum: bool) -> Pages
+    ensures { λ r. ⌜ r ≡ pagesFor (q .supervisor) sum (q .access) ⌝ }
+{
+    let x = q.access;
+    paging_entry::pages_for(q.supervisor, sum, x)
+}
+
 // Both stages, with the first stage's table and SUM.
 fn stages(
     c: DecodedContext,
@@ -97,7 +107,7 @@ fn stages(
     let x = q.access;
     let g = c.second;
     if f.on | g.on {
-        let pages = paging_entry::pages_for(q.supervisor, sum, x);
+        let pages = pages_of(q, sum);
         let t = paging::first_stage(f, g, x, pages, start, window, q.address);
         let Translation::To(a) = t else {
             return on_second(t);

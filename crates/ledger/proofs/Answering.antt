@@ -89,7 +89,7 @@ take-passed start len file n = go (badWindow start len) (isFile start len file) 
 
 module _ (start : ℕ) (bytes : List ℕ) (file n : ℕ) where
   pub take-taken : takeRefusal start (length bytes) file n ≡ 0 → takeOf start bytes file n ≡ Taken (pendingOf start bytes file n)
-  take-taken z = sym (take-made start bytes file n 0 (sym z) _ refl refl)
+  take-taken z = sym (take-made start bytes file n _ z refl)
 
   pub refused-iff : (r : ℕ) → (takeOf start bytes file n ≡ Refused r) ↔ ((takeRefusal start (length bytes) file n ≡ r) × (r ≡ 0 → ⊥))
   refused-iff r = (λ e. go (takeRefusal start (length bytes) file n) refl e, λ h. sym (take-refused start bytes file n r (sym (h .0)) (h .1)))
