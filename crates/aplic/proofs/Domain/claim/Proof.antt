@@ -5,4 +5,4 @@ use Rattle.aplic.proofs.Domain.claim.Statement.{statement}
 use Rattle.aplic.proofs.Domain.claim.Tie as tie
 
 pub claim-spec : {M : Type 1} → statement M
-claim-spec = tie.close (tie.spec (λ c κs. tt) (λ c κs. search (claims, below-of, needs)) (λ c. search needs) (λ c. search (claims, below-of, needs)))
+claim-spec = tie.close (tie.spec (λ c κs. tt) (λ c κs. search (below-of, needs)) (λ c. search needs) (λ c. search (claims, needs)))

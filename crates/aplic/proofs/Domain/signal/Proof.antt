@@ -5,4 +5,4 @@ use Rattle.aplic.proofs.Domain.signal.Statement.{statement}
 use Rattle.aplic.proofs.Domain.signal.Tie as tie
 
 pub signal-spec : {M : Type 1} → statement M
-signal-spec = tie.close (tie.spec (λ c κs. tt) (λ c κs. search (signals, below-of, needs)) (λ c. search needs) (λ c. search (signals, below-of, needs)))
+signal-spec = tie.close (tie.spec (λ c κs. tt) (λ c κs. search (below-of, needs)) (λ c. search needs) (λ c. search (signals, needs)))

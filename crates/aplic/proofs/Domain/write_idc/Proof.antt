@@ -10,9 +10,9 @@ write-idc-spec =
     (tie.spec
     (λ c κs. tt)
     (λ c. search needs)
-    (λ c κs. search (idc-writes, knowing, needs))
+    (λ c κs. search (knowing, needs))
     (λ c. search needs)
     (λ c. search needs)
-    (λ c. search (idc-writes, knowing, needs))
-    (λ c. search (idc-writes, knowing, needs))
-    (λ c. search (idc-writes, knowing, needs)))
+    (λ c. search (idc-writes, needs))
+    (λ c. search (idc-writes, needs))
+    (λ c. search (idc-writes, needs)))
