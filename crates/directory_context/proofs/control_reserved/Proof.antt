@@ -8,9 +8,9 @@ pub control-reserved-spec : {M : Type 1} → statement M
 control-reserved-spec =
     tie.close
     (tie.spec
-    (λ c κs. search (tests, needs))
-    (λ c κs. search (tests, needs))
-    (λ c κs. search (tests, needs))
-    (λ c κs. search (tests, needs))
-    (λ c κs. search (tests, needs))
+    (λ c κs. search needs)
+    (λ c κs. search needs)
+    (λ c κs. search needs)
+    (λ c κs. search needs)
+    (λ c κs. search needs)
     (λ c. search (tests, needs)))

@@ -8,9 +8,9 @@ pub table-reserved-spec : {M : Type 1} → statement M
 table-reserved-spec =
     tie.close
     (tie.spec
-    (λ c κs. search (tests, needs))
-    (λ c κs. search (tests, needs))
-    (λ c κs. search (tests, needs))
-    (λ c κs. search (tests, needs))
+    (λ c κs. search needs)
+    (λ c κs. search needs)
+    (λ c κs. search needs)
+    (λ c κs. search needs)
     (λ c κs. tt)
     (λ c. search (tests, needs)))

@@ -5,4 +5,4 @@ use Rattle.directory_entry.proofs.bare.Statement.{statement}
 use Rattle.directory_entry.proofs.bare.Tie as tie
 
 pub bare-spec : {M : Type 1} → statement M
-bare-spec = tie.close (tie.spec (λ c κs. search needs) (λ c. search (mode-tests, needs)))
+bare-spec = tie.close (tie.spec (λ c κs. tt) (λ c. search (mode-tests, needs)))

@@ -5,4 +5,4 @@ use Rattle.directory_entry.proofs.valid_mode.Statement.{statement}
 use Rattle.directory_entry.proofs.valid_mode.Tie as tie
 
 pub valid-mode-spec : {M : Type 1} → statement M
-valid-mode-spec = tie.close (tie.spec (λ c κs. search needs) (λ c κs. search needs) (λ c κs. search needs) (λ c. search (mode-tests, needs)))
+valid-mode-spec = tie.close (tie.spec (λ c κs. tt) (λ c κs. tt) (λ c κs. tt) (λ c. search (mode-tests, needs)))

@@ -11,4 +11,4 @@ returns-2 c f e = cc
 
 pub fault-of-spec : {M : Type 1} → statement M
 fault-of-spec =
-    tie.close (tie.spec (λ c. search needs) (λ c. search needs) (λ c κs. search needs) returns returns-2)
+    tie.close (tie.spec (λ c. search needs) (λ c. search needs) (λ c κs. tt) returns returns-2)

@@ -8,7 +8,7 @@ pub request-spec : {M : Type 1} → statement M
 request-spec =
     tie.close
     (tie.spec
-    (λ c κs. search needs)
+    (λ c κs. tt)
     (λ c κs. search (request-ways, needs))
     (λ c. search needs)
     (λ c. search needs)
@@ -20,7 +20,7 @@ request-spec =
     (λ c. search needs)
     (λ c. search (request-ways, needs))
     (λ c. search needs)
-    (λ c κs. search needs)
+    (λ c κs. tt)
     (λ c. search needs)
     (λ c. search (request-ways, needs))
     (λ c. search (request-ways, needs)))
