@@ -5,7 +5,7 @@ use mathlib.Core.List.{List, map}
 use Prim.Native.Nat.{ℕ, zero, suc, _<_, _≤_, _+_, _-_, _*_, _/_, _%_, _^_}
 use native.Mathlib.Nat.{div-one}
 use native.Mathlib.Omega.{arith}
-use borrow.Author.Tests.{eqb-true, eqb-false, lt-ltb, le-ltb}
+use borrow.Author.Tests.{not-true, not-false, eqb-true, eqb-false, lt-ltb, le-ltb}
 use lib.Bits.{bitAnd}
 use lib.Dec.{eqb}
 use lib.ListN.{getD, set, length, length-map, replicate, getD-replicate}
@@ -33,15 +33,16 @@ use Rattle.source.specs.Table.{quiet, startOf, act}
 use Rattle.sources.specs.declared.Sources.{Sources}
 use Rattle.sources.specs.Sources.{sourceOf, tableWith, Acts, lined, firstWaiting}
 use Rattle.aplic.specs.declared.Domain.{Domain}
-use Rattle.aplic.specs.declared.Msi.{Msi}
-use Rattle.aplic.specs.declared.Sent.the-variants.{Forwarded}
-use Rattle.aplic.specs.Calls.{wireTable, wireRefusal, concerned, change, enabledBy, writeRegister, readRegister, deliveryNumber, domainWord, forwardTable, sends, sentOf, msiOf}
-use Rattle.aplic.specs.Direct.{serves, withHart, topAt, topi, claimTable, claimHart, claimed, claimValue, writeHart, readHart, signalled}
-use Rattle.aplic.specs.Domain.{commonOf, tableOf, Shows}
-use Rattle.aplic.proofs.Tables.{same-table, acts-ext, handed-is, written, told, acts-table, row-at, configured-table, aimed-table, wired-table, unwired-table, none-sent, none-waits, kept-table, kept-sent, forwarded-table, forwarded-sent}
-use Rattle.aplic.proofs.Tops.{Looked, looked-first, looked-next, looked-some, looked-less, looked-done}
-use Rattle.aplic.proofs.Claims.{serve-yes, serve-mode, serve-refused, below-of, unserved-topi, unserved-table, unserved-hart, unserved-claim, unserved-value, unserved-write, unserved-read, unserved-signal}
-use Rattle.aplic.proofs.Claims.{top-served, nothing-topi, nothing-table, nothing-hart, taken-hart, taken-table, claimed-by, claim-small, wrote-is, tells-delivery, tells-force, tells-threshold, tells-top, table-forced, table-top, table-off}
+use Rattle.aplic_calls.specs.declared.Msi.{Msi}
+use Rattle.aplic_calls.specs.declared.Sent.the-variants.{Forwarded}
+use Rattle.aplic_calls.specs.Calls.{wireTable, wireRefusal, concerned, change, enabledBy, writeRegister, readRegister, deliveryNumber, domainWord, forwardTable, sends, sentOf, msiOf}
+use Rattle.aplic_calls.specs.Direct.{serves, withHart, topAt, topi, claimTable, claimHart, claimed, claimValue, writeHart, readHart, signalled}
+use Rattle.aplic.specs.Domain.{commonOf, tableOf}
+use Rattle.aplic_calls.specs.Code.{Shows}
+use Rattle.aplic_calls.proofs.Tables.{same-table, acts-ext, handed-is, written, told, acts-table, row-at, configured-table, aimed-table, wired-table, unwired-table, none-sent, none-waits, kept-table, kept-sent, forwarded-table, forwarded-sent}
+use Rattle.aplic_calls.proofs.Tops.{Looked, looked-first, looked-next, looked-some, looked-less, looked-done}
+use Rattle.aplic_calls.proofs.Claims.{serve-yes, serve-mode, serve-refused, below-of, unserved-topi, unserved-table, unserved-hart, unserved-claim, unserved-value, unserved-write, unserved-read, unserved-signal}
+use Rattle.aplic_calls.proofs.Claims.{top-served, nothing-topi, nothing-table, nothing-hart, taken-hart, taken-table, claimed-by, claim-small, wrote-is, tells-delivery, tells-force, tells-threshold, tells-top, table-forced, table-top, table-off}
 
 abbrev pub aims : List ℕ → ℕ → ℕ
 aims targets n = getD targets n 0
@@ -55,48 +56,6 @@ put-at z xs n i v l = go (eqb i n) refl
     go : (b : Bool) → eqb i n ≡ b → getD (set xs n v) i z ≡ pick b v (getD xs i z)
     go true e = rw (eqb-true i n e) (getD-set-same xs n v z l)
     go false e = getD-set-other xs n i v z (eqb-false i n e)
-
--- ---- fields
-module _ (ie b : Bool) (d : Delivery) (hb : b ≡ directOf d) where
-  word-by : (x y : Bool) (v : ℕ) → ie ≡ x → b ≡ y → v ≡ 0x80 * 2 ^ 24 + digit x * 2 ^ 8 + digit (not y) * 2 ^ 2 → v ≡ domainWord ie d
-  word-by x y v p q e = e ∙ ap₂ (λ (u w : Bool). 0x80 * 2 ^ 24 + digit u * 2 ^ 8 + digit (not w) * 2 ^ 2) (sym p) (sym q ∙ hb) ∙ ap (λ (n : ℕ). 0x80 * 2 ^ 24 + digit ie * 2 ^ 8 + n * 2 ^ 2) (go d)
-    where
-      go : (d : Delivery) → digit (not (directOf d)) ≡ deliveryNumber d
-      go Direct = refl
-      go Message = refl
-
-  pub word-direct-on : ie ≡ true → b ≡ true → 0x8000_0100 ≡ domainWord ie d
-  word-direct-on p q = word-by true true _ p q refl
-
-  pub word-message-on : ie ≡ true → b ≡ false → 0x8000_0104 ≡ domainWord ie d
-  word-message-on p q = word-by true false _ p q refl
-
-  pub word-direct-off : ie ≡ false → b ≡ true → 0x8000_0000 ≡ domainWord ie d
-  word-direct-off p q = word-by false true _ p q refl
-
-  pub word-message-off : ie ≡ false → b ≡ false → 0x8000_0004 ≡ domainWord ie d
-  word-message-off p q = word-by false false _ p q refl
-
-pub msi-is : (v : ℕ) → _≡_ {A = Msi} (record { hart = v / 0x4_0000 % 0x4000; guest = v / 0x1000 % 64; identity = v % 2048 }) (msiOf v)
-msi-is v = rw div-one
-
-pub wire-taken : (n : ℕ) → (n ≡ 0 → ⊥) → n ≤ 63 → 0 ≡ wireRefusal n
-unfolding wireRefusal
-wire-taken n a b = rw (is-source n (omega arith) (omega arith))
-
-pub refused-zero : (n : ℕ) → n ≡ 0 → 2014 ≡ wireRefusal n
-unfolding wireRefusal
-refused-zero n e = rw (le-ltb 0 n (omega arith))
-
-pub refused-past : (n : ℕ) → 63 < n → 2014 ≡ wireRefusal n
-unfolding wireRefusal
-refused-past n e = rw (lt-ltb 0 n (omega arith), le-ltb n 64 (omega arith))
-
-pub ruleset fields = (word-direct-on, word-message-on, word-direct-off, word-message-off, msi-is, wire-taken, refused-zero, refused-past)
-
--- a source's mode by its number
-pub mode-number : (s : Sources) (n r : ℕ) (y : Source) → y ≡ sourceOf s n 0 → r ≡ numberOf (y .mode) → r ≡ numberOf (sourceOf s n 0 .mode)
-mode-number s n r y p q = q ∙ ap (λ (x : Source). numberOf (x .mode)) p
 
 -- ---- the start
 abbrev zeros : Sources
@@ -387,15 +346,6 @@ module _ (d : Domain) where
 pub length-through : (X Y : Type 0) (f : X → Y) (l : List X) (n : ℕ) → length (map f l) ≡ n → length l ≡ n
 length-through X Y f l n e = sym (length-map l f) ∙ e
 
--- a flag by its opposite
-pub not-on : (b : Bool) → not b ≡ true → b ≡ false
-not-on true e = sym e
-not-on false e = refl
-
-pub not-off : (b : Bool) → not b ≡ false → b ≡ true
-not-off true e = refl
-not-off false e = sym e
-
 pub fine : (h r : ℕ) → r ≡ hartRefusal h → r ≡ 0 → 0 ≡ hartRefusal h
 fine h r e z = sym z ∙ e
 
@@ -403,7 +353,7 @@ pub ruleset tops = (top-first, top-next, top-some, top-less, top-done)
 
 pub ruleset hart-writes = (hart-written, hart-ignored)
 
-pub ruleset hart-reads = (not-on, not-off, hart-silent, hart-delivery, hart-force, hart-threshold, hart-top)
+pub ruleset hart-reads = (not-true, not-false, hart-silent, hart-delivery, hart-force, hart-threshold, hart-top)
 
 pub ruleset signals = (signal-forced, signal-top, signal-off, refused-signal)
 

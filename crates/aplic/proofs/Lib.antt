@@ -1,6 +1,1 @@
-pub mod Tables
-pub mod Tops
-pub mod Claims
 pub mod Domains
-pub mod Runs
-pub mod Always

@@ -1,5 +1,1 @@
-pub mod Direct
-pub mod Calls
-pub mod Run
 pub mod Domain
-pub mod Always

@@ -10,9 +10,11 @@ ghost use Rattle.source.specs.Source.{numberOf, configured, aimed};
 ghost use Rattle.source.specs.Table.{startOf, act};
 ghost use Rattle.sources.specs.Sources.{sourceOf, Acts};
 ghost use Rattle.register.specs.Register.{registerOf, idcOf};
-ghost use Rattle.aplic.specs.Calls.{wireTable, wireRefusal, concerned, change, writeRegister, writeTable, readRegister, readTable, afterRead, domainWord, forwardTable, sentOf, msiOf};
-ghost use Rattle.aplic.specs.Direct.{topAt, topi, claimTable, claimHart, claimed, claimValue, writeHart, readHart, writeIdc, readIdc, claimedBy, signalled as signalledOf};
-ghost use Rattle.aplic.specs.Domain.{tableOf, Shows};
+ghost use Rattle.aplic_calls.specs.Calls.{wireTable, wireRefusal, concerned, change, writeRegister, writeTable, readRegister, readTable, afterRead, domainWord, forwardTable, sentOf, msiOf};
+ghost use Rattle.aplic_calls.specs.Direct.{topAt, topi, claimTable, claimHart, claimed, claimValue, writeHart, readHart, writeIdc, readIdc, claimedBy, signalled as signalledOf};
+ghost use Rattle.aplic.specs.Domain.{tableOf};
+ghost use Rattle.aplic_calls.specs.Code.{Shows};
+use aplic_calls::Sent;
 use hart::Hart;
 use register::BitRegister;
 use register::HartRegister;
@@ -39,18 +41,6 @@ pub struct Wired {
 pub struct Reading {
     pub domain: Domain,
     pub value: u32,
-}
-
-// What is sent for a source: the identity, to a hart's interrupt file or to that of a guest there.
-pub struct Msi {
-    pub hart: u32,
-    pub guest: u32,
-    pub identity: u32,
-}
-
-pub enum Sent {
-    Idle,
-    Forwarded(Msi),
 }
 
 // A domain after a forward, and what is sent.
@@ -81,86 +71,6 @@ pub struct Signal {
     pub refusal: u64,
 }
 
-// A write to a register of bits.
-pub fn write_bits(s: Sources, d: Delivery, b: BitRegister, v: u32) -> Sources
-    ensures { λ r. ⌜ Acts (concerned b v) (change d b) s r ⌝ }
-{
-    match b {
-        BitRegister::SetIp(high) => s.raise(d, word::mask_of(v, high)),
-        BitRegister::SetIpNum => s.raise(d, word::one(v as u64)),
-        BitRegister::InClrIp(high) => s.lower(d, word::mask_of(v, high)),
-        BitRegister::ClrIpNum => s.lower(d, word::one(v as u64)),
-        BitRegister::SetIe(high) => s.allow(word::mask_of(v, high)),
-        BitRegister::SetIeNum => s.allow(word::one(v as u64)),
-        BitRegister::ClrIe(high) => s.forbid(word::mask_of(v, high)),
-        BitRegister::ClrIeNum => s.forbid(word::one(v as u64)),
-    }
-}
-
-pub fn read_bits(s: Sources, b: BitRegister) -> u32
-    ensures { λ r. ⌜ Shows b s r ⌝ }
-{
-    match b {
-        BitRegister::SetIp(high) => word::half_of(s.pending, high),
-        BitRegister::SetIpNum => 0,
-        BitRegister::InClrIp(high) => word::half_of(s.inputs(), high),
-        BitRegister::ClrIpNum => 0,
-        BitRegister::SetIe(high) => word::half_of(s.enable, high),
-        BitRegister::SetIeNum => 0,
-        BitRegister::ClrIe(_) => 0,
-        BitRegister::ClrIeNum => 0,
-    }
-}
-
-// domaincfg, little-endian.
-pub fn domain_word(enable: bool, d: Delivery) -> u32
-    ensures { λ r. ⌜ r ≡ domainWord enable d ⌝ }
-{
-    let direct = source::is_direct(d);
-    if enable {
-        if direct {
-            return 0x8000_0100;
-        }
-        return 0x8000_0104;
-    }
-    if direct {
-        return 0x8000_0000;
-    }
-    0x8000_0004
-}
-
-// A target's fields.
-pub fn msi_of(target: u32) -> Msi
-    ensures { λ r. ⌜ r ≡ msiOf target ⌝ }
-{
-    Msi {
-        hart: target / 0x4_0000 % 0x4000,
-        guest: target / 0x1000 % 64,
-        identity: target % 2048,
-    }
-}
-
-// sourcecfg.
-pub fn mode_number(s: Sources, n: u64) -> u32
-    requires { ⌜ n < 64 ⌝ }
-    ensures { λ r. ⌜ r ≡ numberOf (sourceOf s n 0 .mode) ⌝ }
-{
-    let m = s.row(n, 0).mode;
-    source::number(m)
-}
-
-pub fn wire_refusal(n: u64) -> u64
-    ensures { λ r. ⌜ r ≡ wireRefusal n ⌝ }
-{
-    if n == 0 {
-        return 2014;
-    }
-    if n > 63 {
-        return 2014;
-    }
-    0
-}
-
 impl Domain {
     // A domain at reset. Its delivery mode stays as it is.
     pub fn new(delivery: Delivery) -> Domain
@@ -187,7 +97,7 @@ impl Domain {
     pub fn wire(mut self, n: u64, level: bool) -> Wired
         ensures { λ r. ⌜ (tableOf (r .domain) ≡ wireTable n level (tableOf self)) × (r .refusal ≡ wireRefusal n) ⌝ }
     {
-        let refusal = wire_refusal(n);
+        let refusal = aplic_calls::wire_refusal(n);
         if refusal == 0 {
             let d = self.delivery;
             self.sources = self.sources.sense(d, word::one(n), level);
@@ -261,7 +171,7 @@ impl Domain {
             Register::SourceCfg(n) => self.configure(n, v),
             Register::OfBits(b) => {
                 let d = self.delivery;
-                self.sources = write_bits(self.sources, d, b, v);
+                self.sources = aplic_calls::write_bits(self.sources, d, b, v);
                 self
             }
             Register::Target(n) => self.aim(n, v),
@@ -426,10 +336,10 @@ impl Domain {
         match g {
             Register::DomainCfg => {
                 let d = self.delivery;
-                domain_word(self.enable, d)
+                aplic_calls::domain_word(self.enable, d)
             }
-            Register::SourceCfg(n) => mode_number(self.sources, n),
-            Register::OfBits(b) => read_bits(self.sources, b),
+            Register::SourceCfg(n) => aplic_calls::mode_number(self.sources, n),
+            Register::OfBits(b) => aplic_calls::read_bits(self.sources, b),
             Register::Target(n) => self.target(n),
             Register::Nothing => 0,
         }
@@ -482,7 +392,7 @@ impl Domain {
                 self.sources = self.sources.lower(d, word::one(n));
                 return Forwarding {
                     domain: self,
-                    sent: Sent::Forwarded(msi_of(target)),
+                    sent: Sent::Forwarded(aplic_calls::msi_of(target)),
                 };
             }
         }

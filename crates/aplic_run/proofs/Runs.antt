@@ -10,7 +10,7 @@ use Rattle.source.specs.declared.Delivery.{Delivery}
 use Rattle.source.specs.Table.{Table, startOf}
 use Rattle.aplic.specs.declared.Domain.{Domain}
 use Rattle.aplic.specs.Domain.{tableOf}
-use Rattle.aplic.specs.Run.{Call, Answer, after, answer, answers, afterAll}
+use Rattle.aplic_calls.specs.Run.{Call, Answer, after, answer, answers, afterAll}
 use Rattle.aplic_run.specs.declared.Reply.{Reply}
 use Rattle.aplic_run.specs.Words.{callOf, callsOf, replyOf, wordsOf, runnable, answered, withReply}
 

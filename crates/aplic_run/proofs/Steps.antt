@@ -7,12 +7,12 @@ use borrow.Author.Tests.{eq-eqb, ne-eqb}
 use Rattle.word.specs.Word.{digit}
 use Rattle.hart.specs.Hart.{hartRefusal}
 use Rattle.source.specs.Table.{Table}
-use Rattle.aplic.specs.declared.Msi.{Msi}
-use Rattle.aplic.specs.declared.Sent.{Sent}
-use Rattle.aplic.specs.declared.Sent.the-variants.{Forwarded, Idle}
-use Rattle.aplic.specs.Calls.{wireTable, wireRefusal, writeTable, readTable, afterRead, forwardTable, sentOf}
-use Rattle.aplic.specs.Direct.{claimed, claimValue, signalled}
-use Rattle.aplic.specs.Run.{Call, wire, write, read, forward, claim, signal, sent, after, answer}
+use Rattle.aplic_calls.specs.declared.Msi.{Msi}
+use Rattle.aplic_calls.specs.declared.Sent.{Sent}
+use Rattle.aplic_calls.specs.declared.Sent.the-variants.{Forwarded, Idle}
+use Rattle.aplic_calls.specs.Calls.{wireTable, wireRefusal, writeTable, readTable, afterRead, forwardTable, sentOf}
+use Rattle.aplic_calls.specs.Direct.{claimed, claimValue, signalled}
+use Rattle.aplic_calls.specs.Run.{Call, wire, write, read, forward, claim, signal, sent, after, answer}
 use Rattle.aplic_run.specs.declared.Reply.{Reply}
 use Rattle.aplic_run.specs.Words.{callOf, lateCall, short, pair, replyOf}
 

@@ -8,8 +8,8 @@ use Rattle.register.specs.Register.{pendingRegister, enableRegister, registerOf
 use Rattle.hart.specs.Hart.{hartRefusal, wroteOf, unforced, passes, topWord}
 use Rattle.source.specs.declared.Delivery.the-variants.{Direct, Message}
 use Rattle.source.specs.Source.{sensed, raised, lowered, handed, allowed, configured, aimed}
-use Rattle.aplic.specs.Direct.{serves, withHart, contributes, leads, topAt, topi, claimTable, claimHart, claimed, claimValue, writeHart, writeIdc, readIdc, claimedBy, signalled}
-use Rattle.aplic.specs.Calls.{afterRead, wireTable, wireRefusal, writeTable, writeRegister, enabledBy, concerned, change, forwardTable, sentOf, sends, topOf, readTable, readRegister, readBits}
+use Rattle.aplic_calls.specs.Direct.{serves, withHart, contributes, leads, topAt, topi, claimTable, claimHart, claimed, claimValue, writeHart, writeIdc, readIdc, claimedBy, signalled}
+use Rattle.aplic_calls.specs.Calls.{afterRead, wireTable, wireRefusal, writeTable, writeRegister, enabledBy, concerned, change, forwardTable, sentOf, sends, topOf, readTable, readRegister, readBits}
 use Rattle.aplic_run.specs.Words.{callOf, lateCall, runnable, answered}
 
 -- message delivery: source 1 is configured, aimed, enabled and raised; the first forward sends it, the second has nothing to send.

@@ -8,8 +8,8 @@ use Rattle.memory.specs.Choice.{pick}
 use Rattle.word.specs.Word.{digit}
 use Rattle.source.specs.declared.Delivery.{Delivery}
 use Rattle.source.specs.Table.{startOf}
-use Rattle.aplic.specs.declared.Sent.the-variants.{Forwarded, Idle}
-use Rattle.aplic.specs.Run.{Call, wire, write, read, forward, claim, signal, Answer, refusal, done, value, sent, took, asserted, answers}
+use Rattle.aplic_calls.specs.declared.Sent.the-variants.{Forwarded, Idle}
+use Rattle.aplic_calls.specs.Run.{Call, wire, write, read, forward, claim, signal, Answer, refusal, done, value, sent, took, asserted, answers}
 use Rattle.aplic_run.specs.declared.Reply.{Reply}
 
 -- a call is three words: its kind, a and b. 0: wire a takes the level b, high unless b is 0; 1: b's low 32 bits are written at offset a; 2: offset a is read;

@@ -3,10 +3,10 @@ ghost use mathlib.Core.Path.{_≡_};
 ghost use Prim.Native.Nat.{_+_, _≤_, _/_, min};
 ghost use lib.ListN.{length as lengthOf};
 ghost use Rattle.aplic.specs.Domain.{tableOf};
-ghost use Rattle.aplic.specs.Run.{after, answer, sent};
+ghost use Rattle.aplic_calls.specs.Run.{after, answer, sent};
 ghost use Rattle.aplic_run.specs.Words.{callOf, lateCall, short, pair, replyOf, runnable, answered, withReply};
 use aplic::Domain;
-use aplic::Sent;
+use aplic_calls::Sent;
 use source::Delivery;
 
 // The words of an answer.

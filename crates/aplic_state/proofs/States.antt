@@ -5,7 +5,7 @@ use mathlib.Core.List.{List, [], _∷_}
 use Prim.Native.Nat.{ℕ, zero, suc, _+_, _-_, _*_, _/_, _%_, _<_, _≤_}
 use native.Mathlib.Nat.{mod-eq-of-lt}
 use native.Mathlib.Omega.{arith}
-use borrow.Author.Tests.{eqb-true, eqb-false, lt-ltb, le-ltb, ltb-true}
+use borrow.Author.Tests.{not-true, not-false, eqb-true, eqb-false, lt-ltb, le-ltb, ltb-true}
 use lib.Bits.{bitAnd}
 use lib.Dec.{eqb, ltb}
 use lib.ListN.{getD, set, length, drop, replicate, length-set, length-replicate}
@@ -36,17 +36,16 @@ use Rattle.source.specs.Source.{directOf, activeOf, modeOf, numberOf, sensed, l
 use Rattle.source.specs.Table.{Table, quiet, startOf, act}
 use Rattle.sources.specs.declared.Sources.{Sources}
 use Rattle.sources.specs.Sources.{sourceOf, tableWith, Acts, lined, firstWaiting}
-use Rattle.aplic.specs.declared.Msi.{Msi}
-use Rattle.aplic.specs.declared.Sent.{Sent}
-use Rattle.aplic.specs.declared.Sent.the-variants.{Idle, Forwarded}
-use Rattle.aplic.specs.Direct.{serves, withHart, topAt, topi, claimTable, claimHart, claimed, claimValue, writeHart, readHart, ignoresIdc, claims, signalled}
-use Rattle.aplic.specs.Calls.{wireTable, concerned, change, enabledBy, writeRegister, ignoresRegister, ignores, readBits, readRegister, domainWord, forwardTable, sends, sentOf, msiOf}
-use Rattle.aplic.specs.Domain.{Shows}
-use Rattle.aplic.proofs.Tables.{same-table, acts-ext, handed-is, acts-table, row-at, configured-table, aimed-table, wired-table, written, told, none-sent, none-waits, kept-table, kept-sent, forwarded-table, forwarded-sent}
-use Rattle.aplic.proofs.Tops.{Looked, looked-first, looked-next, looked-some, looked-less, looked-done}
-use Rattle.aplic.proofs.Claims.{with-own, serve-yes, serve-mode, unserved-claim, unserved-value, unserved-write, unserved-read, unserved-signal}
-use Rattle.aplic.proofs.Claims.{top-served, nothing-table, nothing-hart, taken-hart, taken-table, claimed-by, wrote-is, tells-delivery, tells-force, tells-threshold, tells-top, table-forced, table-top, table-off}
-use Rattle.aplic.proofs.Domains.{not-on, not-off}
+use Rattle.aplic_calls.specs.declared.Msi.{Msi}
+use Rattle.aplic_calls.specs.declared.Sent.{Sent}
+use Rattle.aplic_calls.specs.declared.Sent.the-variants.{Idle, Forwarded}
+use Rattle.aplic_calls.specs.Direct.{serves, withHart, topAt, topi, claimTable, claimHart, claimed, claimValue, writeHart, readHart, ignoresIdc, claims, signalled}
+use Rattle.aplic_calls.specs.Calls.{wireTable, concerned, change, enabledBy, writeRegister, ignoresRegister, ignores, readBits, readRegister, domainWord, forwardTable, sends, sentOf, msiOf}
+use Rattle.aplic_calls.specs.Code.{Shows}
+use Rattle.aplic_calls.proofs.Tables.{same-table, acts-ext, handed-is, acts-table, row-at, configured-table, aimed-table, wired-table, written, told, none-sent, none-waits, kept-table, kept-sent, forwarded-table, forwarded-sent}
+use Rattle.aplic_calls.proofs.Tops.{Looked, looked-first, looked-next, looked-some, looked-less, looked-done}
+use Rattle.aplic_calls.proofs.Claims.{with-own, serve-yes, serve-mode, unserved-claim, unserved-value, unserved-write, unserved-read, unserved-signal}
+use Rattle.aplic_calls.proofs.Claims.{top-served, nothing-table, nothing-hart, taken-hart, taken-table, claimed-by, wrote-is, tells-delivery, tells-force, tells-threshold, tells-top, table-forced, table-top, table-off}
 use Rattle.aplic_state.specs.State.{enableIn, sourcesIn, deliveryIn, targetIn, recordIn, commonIn, tableIn, modeWord, madeOf, withSources}
 
 -- ---- words
@@ -426,7 +425,7 @@ module _ (ws : List ℕ) (o : ℕ) (g : Idc) (p : g ≡ idcOf o) where
     -- a hart's register where the mode is message
     pub changed-hart : (h : ℕ) (k : HartRegister) → g ≡ OfHart h k → (directOf (deliveryIn ws) ≡ false → xs ≡ ys) → ignoresIdc (deliveryIn ws) (idcOf o) ≡ true → xs ≡ ys
     unfolding ignoresIdc
-    changed-hart h k q f e = f (not-on (directOf (deliveryIn ws)) (ap (ignoresIdc (deliveryIn ws)) (sym q ∙ p) ∙ e))
+    changed-hart h k q f e = f (not-true (directOf (deliveryIn ws)) (ap (ignoresIdc (deliveryIn ws)) (sym q ∙ p) ∙ e))
 
     -- a claim where it is none
     pub claimed-else : (h : ℕ) → g ≡ ClaimI h → (directOf (deliveryIn ws) ≡ false → xs ≡ ys) → claims (deliveryIn ws) (idcOf o) ≡ false → xs ≡ ys
@@ -592,7 +591,7 @@ pub ruleset tops = (top-first, top-next, top-some, top-less, top-done)
 
 pub ruleset hart-writes = (hart-written, hart-ignored, not-message)
 
-pub ruleset hart-reads = (not-on, not-off, hart-silent, hart-delivery, hart-force, hart-threshold, hart-top)
+pub ruleset hart-reads = (not-true, not-false, hart-silent, hart-delivery, hart-force, hart-threshold, hart-top)
 
 pub ruleset claiming = (claim-silent, claim-ignored, claim-value, claim-zero, claim-none, claim-took, not-message)
 

@@ -8,11 +8,11 @@ ghost use Rattle.register.specs.Register.{registerOf, idcOf};
 ghost use Rattle.hart.specs.Kept.{keptOf};
 ghost use Rattle.source.specs.Source.{directOf, configured, aimed};
 ghost use Rattle.source.specs.Table.{act};
-ghost use Rattle.aplic.specs.Calls.{wireTable, writeRegister, writeTable, ignoresRegister, ignores, readRegister, readTable, afterRead, forwardTable, sentOf};
-ghost use Rattle.aplic.specs.Direct.{topAt, claimed, claimValue, writeHart, readHart, writeIdc, ignoresIdc, readIdc, claimedBy, claims, signalled as signalledOf};
-ghost use Rattle.aplic.specs.declared.Sent.the-variants.{Idle};
+ghost use Rattle.aplic_calls.specs.Calls.{wireTable, writeRegister, writeTable, ignoresRegister, ignores, readRegister, readTable, afterRead, forwardTable, sentOf};
+ghost use Rattle.aplic_calls.specs.Direct.{topAt, claimed, claimValue, writeHart, readHart, writeIdc, ignoresIdc, readIdc, claimedBy, claims, signalled as signalledOf};
+ghost use Rattle.aplic_calls.specs.declared.Sent.the-variants.{Idle};
 ghost use Rattle.aplic_state.specs.State.{enableIn, sourcesIn, deliveryIn, targetIn, recordIn, tableIn, withSources};
-use aplic::Sent;
+use aplic_calls::Sent;
 use hart::Hart;
 use register::HartRegister;
 use register::Idc;
@@ -170,7 +170,7 @@ fn write_register(state: &mut [u64], offset: u64, v: u32)
         }
         Register::OfBits(b) => {
             let d = delivery_in(state);
-            let s = aplic::write_bits(sources_in(state), d, b, v);
+            let s = aplic_calls::write_bits(sources_in(state), d, b, v);
             put_sources(state, s);
         }
         Register::Target(n) => {
@@ -276,10 +276,10 @@ fn value(state: &[u64], offset: u64) -> u32
     match g {
         Register::DomainCfg => {
             let d = delivery_in(state);
-            aplic::domain_word(is_enabled(state), d)
+            aplic_calls::domain_word(is_enabled(state), d)
         }
-        Register::SourceCfg(n) => aplic::mode_number(sources_in(state), n),
-        Register::OfBits(b) => aplic::read_bits(sources_in(state), b),
+        Register::SourceCfg(n) => aplic_calls::mode_number(sources_in(state), n),
+        Register::OfBits(b) => aplic_calls::read_bits(sources_in(state), b),
         Register::Target(n) => target_in(state, n),
         Register::Nothing => 0,
     }
@@ -330,7 +330,7 @@ pub fn forward(state: &mut [u64]) -> Sent
         if n < 64 {
             let target = target_in(state, n);
             put_sources(state, s.lower(d, word::one(n)));
-            return Sent::Forwarded(aplic::msi_of(target));
+            return Sent::Forwarded(aplic_calls::msi_of(target));
         }
     }
     Sent::Idle

@@ -11,14 +11,14 @@ use Rattle.word.specs.Word.{digit}
 use Rattle.hart.specs.Hart.{hartRefusal}
 use Rattle.source.specs.declared.Delivery.{Delivery}
 use Rattle.source.specs.Table.{Table, startOf}
-use Rattle.aplic.specs.declared.Sent.{Sent}
-use Rattle.aplic.specs.declared.Sent.the-variants.{Idle, Forwarded}
-use Rattle.aplic.specs.Calls.{wireTable, wireRefusal}
-use Rattle.aplic.specs.Direct.{claimed, claimValue, signalled}
-use Rattle.aplic.specs.Run.{Call, Answer, refusal, value, sent, took, asserted, answer, after, answers, afterAll, Ran, end, next}
-use Rattle.aplic.proofs.Tables.{unwired-table}
-use Rattle.aplic.proofs.Claims.{serve-refused, unserved-claim, unserved-value, unserved-signal}
-use Rattle.aplic.proofs.Runs.{run-claim}
+use Rattle.aplic_calls.specs.declared.Sent.{Sent}
+use Rattle.aplic_calls.specs.declared.Sent.the-variants.{Idle, Forwarded}
+use Rattle.aplic_calls.specs.Calls.{wireTable, wireRefusal}
+use Rattle.aplic_calls.specs.Direct.{claimed, claimValue, signalled}
+use Rattle.aplic_calls.specs.Run.{Call, Answer, refusal, value, sent, took, asserted, answer, after, answers, afterAll, Ran, end, next}
+use Rattle.aplic_calls.proofs.Tables.{unwired-table}
+use Rattle.aplic_calls.proofs.Claims.{serve-refused, unserved-claim, unserved-value, unserved-signal}
+use Rattle.aplic_calls.proofs.Runs.{run-claim}
 use Rattle.aplic_state.specs.State.{madeOf, tableIn}
 use Rattle.aplic_state.proofs.States.{made-start}
 use Rattle.capi_room.specs.Room.{status}

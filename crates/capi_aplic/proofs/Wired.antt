@@ -5,9 +5,9 @@ use mathlib.Core.List.{List}
 use mathlib.Core.Path.{_≡_, refl, sym, ap, _∙_}
 use lib.ListN.{length, set}
 use borrow.Author.Tests.{lt-ltb, le-ltb}
-use Rattle.aplic.specs.declared.Msi.{Msi}
-use Rattle.aplic.specs.declared.Sent.{Sent}
-use Rattle.aplic.specs.declared.Sent.the-variants.{Idle, Forwarded}
+use Rattle.aplic_calls.specs.declared.Msi.{Msi}
+use Rattle.aplic_calls.specs.declared.Sent.{Sent}
+use Rattle.aplic_calls.specs.declared.Sent.the-variants.{Idle, Forwarded}
 use Rattle.word.specs.Word.{digit}
 use Rattle.capi_aplic.specs.Wired.{domainStatus, roomStatus, underStatus, withSent}
 

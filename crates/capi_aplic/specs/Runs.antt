@@ -8,11 +8,11 @@ use lib.ListN.{getD, length, set}
 use Rattle.memory.specs.Choice.{pick}
 use Rattle.word.specs.Word.{digit}
 use Rattle.hart.specs.Hart.{hartRefusal}
-use Rattle.aplic.specs.declared.Sent.{Sent}
-use Rattle.aplic.specs.declared.Sent.the-variants.{Idle, Forwarded}
-use Rattle.aplic.specs.Direct.{claimed, claimValue, signalled}
-use Rattle.aplic.specs.Calls.{wireTable, wireRefusal, writeTable, readTable, afterRead, forwardTable, sentOf}
-use Rattle.aplic.specs.Run.{Call, wire, write, read, forward, claim, signal, Answer, refusal, done, value, sent, took, asserted}
+use Rattle.aplic_calls.specs.declared.Sent.{Sent}
+use Rattle.aplic_calls.specs.declared.Sent.the-variants.{Idle, Forwarded}
+use Rattle.aplic_calls.specs.Direct.{claimed, claimValue, signalled}
+use Rattle.aplic_calls.specs.Calls.{wireTable, wireRefusal, writeTable, readTable, afterRead, forwardTable, sentOf}
+use Rattle.aplic_calls.specs.Run.{Call, wire, write, read, forward, claim, signal, Answer, refusal, done, value, sent, took, asserted}
 use Rattle.aplic_state.specs.State.{tableIn}
 use Rattle.capi_room.specs.Room.{status}
 use Rattle.capi_aplic.specs.Wired.{domainStatus, roomStatus, underStatus, withSent}

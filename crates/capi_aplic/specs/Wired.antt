@@ -4,8 +4,8 @@ use mathlib.Core.List.{List}
 use lib.Dec.{ltb}
 use lib.ListN.{length, set}
 use Rattle.memory.specs.Choice.{pick}
-use Rattle.aplic.specs.declared.Sent.{Sent}
-use Rattle.aplic.specs.declared.Sent.the-variants.{Idle, Forwarded}
+use Rattle.aplic_calls.specs.declared.Sent.{Sent}
+use Rattle.aplic_calls.specs.declared.Sent.the-variants.{Idle, Forwarded}
 
 -- the status of a call: 1 where the state has fewer than 87 words, else what the call itself tells
 unfoldable pub domainStatus : List ℕ → ℕ → ℕ

@@ -1,5 +1,5 @@
 // The routines of an APLIC domain for C and Rust: numbers and lent slices alone. Every input is answered.
-use aplic::Sent;
+use aplic_calls::Sent;
 ghost use mathlib.Core.Path.{_≡_};
 ghost use Prim.Native.Nat.{_≤_};
 ghost use mathlib.Core.Bool.{true, false, not};
@@ -8,9 +8,9 @@ ghost use lib.ListN.{length as lengthOf, drop, set};
 ghost use Rattle.register.specs.Register.{idcOf};
 ghost use Rattle.word.specs.Word.{digit};
 ghost use Rattle.hart.specs.Hart.{hartRefusal};
-ghost use Rattle.aplic.specs.Direct.{claimed, claimValue, claims, signalled};
-ghost use Rattle.aplic.specs.Calls.{wireTable, wireRefusal, writeTable, ignores, readTable, afterRead, forwardTable, sentOf};
-ghost use Rattle.aplic.specs.declared.Sent.the-variants.{Idle};
+ghost use Rattle.aplic_calls.specs.Direct.{claimed, claimValue, claims, signalled};
+ghost use Rattle.aplic_calls.specs.Calls.{wireTable, wireRefusal, writeTable, ignores, readTable, afterRead, forwardTable, sentOf};
+ghost use Rattle.aplic_calls.specs.declared.Sent.the-variants.{Idle};
 ghost use Rattle.aplic_state.specs.State.{deliveryIn, tableIn};
 ghost use Rattle.capi_room.specs.Room.{status};
 ghost use Rattle.capi_aplic.specs.Wired.{domainStatus, roomStatus, underStatus, withSent};
@@ -26,7 +26,7 @@ pub extern "C" fn yasmurekh_aplic_wire(state: &mut [u64], source: u64, level: u6
     if state.len() < 87 {
         return 1;
     }
-    let refusal = aplic::wire_refusal(source);
+    let refusal = aplic_calls::wire_refusal(source);
     if refusal == 0 {
         aplic_state::wire(state, source, level != 0);
     }

@@ -1,7 +1,7 @@
 // A hart's delivery record, lent and changed in place.
 ghost use mathlib.Core.Path.{_≡_};
 ghost use Rattle.hart.specs.Hart.{wroteOf, hartRefusal};
-ghost use Rattle.aplic.specs.Direct.{claimTable, claimHart, topi};
+ghost use Rattle.aplic_calls.specs.Direct.{claimTable, claimHart, topi};
 ghost use Rattle.aplic.specs.Domain.{tableOf};
 use aplic::Claimed;
 use aplic::Domain;

@@ -1,5 +1,5 @@
 use mathlib.Core.Path.{refl}
-use Rattle.aplic.proofs.Tables.{kept-sent, kept-table}
+use Rattle.aplic_calls.proofs.Tables.{kept-sent, kept-table}
 use Rattle.aplic_state.proofs.States.{forward-sends, forward-goes, forward-none, forward-off, forward-changes, beyond-put}
 use borrow.Author.Needs.{needs}
 use Rattle.aplic_state.proofs.forward.Statement.{statement}

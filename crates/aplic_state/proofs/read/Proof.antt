@@ -1,5 +1,5 @@
 use mathlib.Core.Path.{refl}
-use Rattle.aplic.proofs.Tables.{spans}
+use Rattle.aplic_calls.proofs.Tables.{spans}
 use borrow.Author.Needs.{needs}
 use Rattle.aplic_state.proofs.read.Statement.{statement}
 use Rattle.aplic_state.proofs.read.Tie as tie

@@ -1,6 +1,6 @@
 use borrow.Author.Needs.{needs}
 use Rattle.aplic_state.proofs.States.{tops}
-use Rattle.aplic.proofs.Tops.{Looked}
+use Rattle.aplic_calls.proofs.Tops.{Looked}
 use Rattle.aplic_state.specs.State.{commonIn, sourcesIn, targetIn}
 use lib.ListN.{length}
 use Prim.Native.Nat.{_≤_}

@@ -1,4 +1,4 @@
-use Rattle.aplic.proofs.Tables.{spans}
+use Rattle.aplic_calls.proofs.Tables.{spans}
 use Rattle.aplic_state.proofs.States.{ignoring}
 use borrow.Author.Needs.{needs}
 use Rattle.aplic_state.proofs.write.Statement.{statement}

@@ -1,4 +1,4 @@
-use Rattle.aplic.proofs.Claims.{idc-writes}
+use Rattle.aplic_calls.proofs.Claims.{idc-writes}
 use Rattle.aplic_state.proofs.States.{changed-hart, beyond}
 use Rattle.register.proofs.Known.{knowing}
 use borrow.Author.Needs.{needs}

@@ -1,5 +1,5 @@
 use mathlib.Core.Path.{refl}
-use Rattle.aplic.proofs.Claims.{below-of}
+use Rattle.aplic_calls.proofs.Claims.{below-of}
 use Rattle.capi_aplic.proofs.Wired.{state-short, state-long, room-short, room-long, left-short, left-refused, flag-by}
 use borrow.Author.Needs.{needs}
 use Rattle.capi_aplic.proofs.yasmurekh_aplic_signal.Statement.{statement}

@@ -41,7 +41,7 @@ use denote.Exit.{yes}
 use Rattle.hart.specs.Hart.{hartRefusal}
 use Rattle.hart.specs.declared.Hart.{Hart}
 use Rattle.aplic.specs.Domain.{tableOf}
-use Rattle.aplic.specs.Direct.{claimTable, claimHart, topi}
+use Rattle.aplic_calls.specs.Direct.{claimTable, claimHart, topi}
 use lib.ListN.{length}
 use Rattle.aplic.specs.declared.Domain.{Domain}
 use Rattle.aplic.specs.declared.Claimed.{Claimed}

@@ -1,5 +1,5 @@
 use Rattle.aplic.proofs.Domains.{claims}
-use Rattle.aplic.proofs.Claims.{below-of}
+use Rattle.aplic_calls.proofs.Claims.{below-of}
 use borrow.Author.Needs.{needs}
 use Rattle.aplic.proofs.Domain.claim.Statement.{statement}
 use Rattle.aplic.proofs.Domain.claim.Tie as tie

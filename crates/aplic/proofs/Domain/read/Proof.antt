@@ -1,4 +1,4 @@
-use Rattle.aplic.proofs.Tables.{spans}
+use Rattle.aplic_calls.proofs.Tables.{spans}
 use borrow.Author.Needs.{needs}
 use Rattle.aplic.proofs.Domain.read.Statement.{statement}
 use Rattle.aplic.proofs.Domain.read.Tie as tie

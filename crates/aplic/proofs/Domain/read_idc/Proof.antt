@@ -1,4 +1,4 @@
-use Rattle.aplic.proofs.Claims.{idc-reads, lefts}
+use Rattle.aplic_calls.proofs.Claims.{idc-reads, lefts}
 use Rattle.register.proofs.Known.{knowing}
 use borrow.Author.Needs.{needs}
 use Rattle.aplic.proofs.Domain.read_idc.Statement.{statement}

@@ -1,5 +1,5 @@
 use Rattle.aplic.proofs.Domains.{signals}
-use Rattle.aplic.proofs.Claims.{below-of}
+use Rattle.aplic_calls.proofs.Claims.{below-of}
 use borrow.Author.Needs.{needs}
 use Rattle.aplic.proofs.Domain.signal.Statement.{statement}
 use Rattle.aplic.proofs.Domain.signal.Tie as tie

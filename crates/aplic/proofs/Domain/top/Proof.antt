@@ -1,6 +1,6 @@
 use borrow.Author.Needs.{needs}
 use Rattle.aplic.proofs.Domains.{aims, tops}
-use Rattle.aplic.proofs.Tops.{Looked}
+use Rattle.aplic_calls.proofs.Tops.{Looked}
 use Rattle.aplic.specs.Domain.{commonOf}
 use Rattle.aplic.proofs.Domain.top.Statement.{statement}
 use Rattle.aplic.proofs.Domain.top.Tie as tie

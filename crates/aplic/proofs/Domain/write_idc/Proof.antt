@@ -1,4 +1,4 @@
-use Rattle.aplic.proofs.Claims.{idc-writes}
+use Rattle.aplic_calls.proofs.Claims.{idc-writes}
 use Rattle.register.proofs.Known.{knowing}
 use borrow.Author.Needs.{needs}
 use Rattle.aplic.proofs.Domain.write_idc.Statement.{statement}

@@ -3,7 +3,7 @@ use mathlib.Core.List.{List, [], _∷_}
 use mathlib.Core.Path.{_≡_, refl, ap, ap₂, _∙_}
 use Rattle.source.specs.declared.Delivery.{Delivery}
 use Rattle.source.specs.Table.{Table, startOf}
-use Rattle.aplic.specs.Run.{Call, Answer, after, answers, afterAll, Ran, end, next}
+use Rattle.aplic_calls.specs.Run.{Call, Answer, after, answers, afterAll, Ran, end, next}
 
 module _ {S : Type 0} {table : S → Table} where
   follows : {s z : S} {cs : List Call} {xs : List Answer} → Ran table s cs xs z → (xs ≡ answers (table s) cs) × (table z ≡ afterAll (table s) cs)

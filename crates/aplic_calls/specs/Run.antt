@@ -5,9 +5,9 @@ use mathlib.Core.List.{List, [], _∷_}
 use mathlib.Core.Path.{_≡_}
 use Rattle.source.specs.Table.{Table}
 use Rattle.hart.specs.Hart.{hartRefusal}
-use Rattle.aplic.specs.declared.Sent.{Sent}
-use Rattle.aplic.specs.Direct.{claimed, claimValue, signalled}
-use Rattle.aplic.specs.Calls.{wireTable, wireRefusal, writeTable, readTable, afterRead, forwardTable, sentOf}
+use Rattle.aplic_calls.specs.declared.Sent.{Sent}
+use Rattle.aplic_calls.specs.Direct.{claimed, claimValue, signalled}
+use Rattle.aplic_calls.specs.Calls.{wireTable, wireRefusal, writeTable, readTable, afterRead, forwardTable, sentOf}
 
 pub data Call : Type 0 where
   wire : ℕ → Bool → Call

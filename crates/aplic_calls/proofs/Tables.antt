@@ -23,11 +23,11 @@ use Rattle.source.specs.Source.{directOf, clrip, delivered, newPending, inputOf
 use Rattle.source.specs.Table.{Table, quiet, act}
 use Rattle.sources.specs.declared.Sources.{Sources}
 use Rattle.sources.specs.Sources.{sourceOf, Common, tableWith, Acts, Inputs, lined, firstWaiting}
-use Rattle.aplic.specs.declared.Msi.{Msi}
-use Rattle.aplic.specs.declared.Sent.the-variants.{Idle, Forwarded}
-use Rattle.aplic.specs.Direct.{writeIdc, readIdc, claimedBy}
-use Rattle.aplic.specs.Calls.{concerned, change, writeRegister, writeTable, readBits, readRegister, readTable, afterRead, waiting, topOf, forwards, sends, forwardTable, sentOf, msiOf, wireTable, wireRefusal}
-use Rattle.aplic.specs.Domain.{Shows}
+use Rattle.aplic_calls.specs.declared.Msi.{Msi}
+use Rattle.aplic_calls.specs.declared.Sent.the-variants.{Idle, Forwarded}
+use Rattle.aplic_calls.specs.Direct.{writeIdc, readIdc, claimedBy}
+use Rattle.aplic_calls.specs.Calls.{concerned, change, writeRegister, writeTable, readBits, readRegister, readTable, afterRead, waiting, topOf, forwards, sends, forwardTable, sentOf, msiOf, wireTable, wireRefusal}
+use Rattle.aplic_calls.specs.Code.{Shows}
 
 pub same-table : (d e : Delivery) (x y : Bool) (f g : ℕ → Source) (u v : ℕ → Hart) → d ≡ e → x ≡ y → u ≡ v → ((i : ℕ) → f i ≡ g i)
     → _≡_ {A = Table} (record { delivery = d; enable = x; row = f; hart = u }) (record { delivery = e; enable = y; row = g; hart = v })

@@ -16,8 +16,8 @@ use Rattle.source.specs.declared.Source.{Source}
 use Rattle.source.specs.Table.{Table}
 use Rattle.sources.specs.declared.Sources.{Sources}
 use Rattle.sources.specs.Sources.{sourceOf, Common, tableWith}
-use Rattle.aplic.specs.Direct.{contributes, leads, topAt}
-use Rattle.aplic.proofs.Tables.{row-at}
+use Rattle.aplic_calls.specs.Direct.{contributes, leads, topAt}
+use Rattle.aplic_calls.proofs.Tables.{row-at}
 
 -- ---- keys
 key-source : (i target : ℕ) → i < 64 → keyOf i target % 64 ≡ i

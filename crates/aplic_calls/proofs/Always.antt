@@ -25,10 +25,10 @@ use Rattle.source.specs.declared.Mode.the-variants.{Inactive, Detached, Edge1, 
 use Rattle.source.specs.declared.Source.{Source}
 use Rattle.source.specs.Source.{modeOf, activeOf, rectified, Event, input, setip, clrip, delivered, newPending, rises, befalls, sensed, raised, lowered, handed, allowed, configured, configuredPending, configuredTarget, firstTarget, aimed, targetOf}
 use Rattle.source.specs.Table.{Table, startOf, act}
-use Rattle.aplic.specs.Direct.{serves, withHart, topi, claimTable, claimHart, claimed, writeHart, writeIdc, claimedBy}
-use Rattle.aplic.specs.Calls.{wireTable, concerned, change, enabledBy, writeRegister, writeTable, afterRead, forwardTable, sends, topOf}
-use Rattle.aplic.specs.Run.{Call, wire, write, read, forward, claim, signal, after, afterAll}
-use Rattle.aplic.specs.Always.{LevelSound, PrioritySound, SoundAs, Sound}
+use Rattle.aplic_calls.specs.Direct.{serves, withHart, topi, claimTable, claimHart, claimed, writeHart, writeIdc, claimedBy}
+use Rattle.aplic_calls.specs.Calls.{wireTable, concerned, change, enabledBy, writeRegister, writeTable, afterRead, forwardTable, sends, topOf}
+use Rattle.aplic_calls.specs.Run.{Call, wire, write, read, forward, claim, signal, after, afterAll}
+use Rattle.aplic_calls.specs.Always.{LevelSound, PrioritySound, SoundAs, Sound}
 
 abbrev Fine : Delivery → Source → Type 0
 Fine d s = SoundAs d (s .mode) s

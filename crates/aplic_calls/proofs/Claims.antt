@@ -18,7 +18,7 @@ use Rattle.hart.specs.declared.Hart.{Hart}
 use Rattle.hart.specs.Hart.{wroteOf, unforced, hartRefusal}
 use Rattle.source.specs.Source.{directOf, handed}
 use Rattle.source.specs.Table.{Table, act}
-use Rattle.aplic.specs.Direct.{serves, withHart, topAt, topi, claimTable, claimHart, claimed, claimValue, writeHart, readHart, writeIdc, readIdc, claimedBy, signalled, tells}
+use Rattle.aplic_calls.specs.Direct.{serves, withHart, topAt, topi, claimTable, claimHart, claimed, claimValue, writeHart, readHart, writeIdc, readIdc, claimedBy, signalled, tells}
 
 pub below-of : (h r : ℕ) → r ≡ hartRefusal h → r ≡ 0 → h < 16
 unfolding hartRefusal

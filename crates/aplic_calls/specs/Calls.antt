@@ -15,10 +15,10 @@ use Rattle.source.specs.declared.Delivery.the-variants.{Direct, Message}
 use Rattle.source.specs.declared.Source.{Source}
 use Rattle.source.specs.Source.{numberOf, inputOf, sensed, raised, lowered, handed, allowed, configured, aimed}
 use Rattle.source.specs.Table.{Table, act}
-use Rattle.aplic.specs.Direct.{writeIdc, ignoresIdc, readIdc, claimedBy}
-use Rattle.aplic.specs.declared.Msi.{Msi}
-use Rattle.aplic.specs.declared.Sent.{Sent}
-use Rattle.aplic.specs.declared.Sent.the-variants.{Forwarded, Idle}
+use Rattle.aplic_calls.specs.Direct.{writeIdc, ignoresIdc, readIdc, claimedBy}
+use Rattle.aplic_calls.specs.declared.Msi.{Msi}
+use Rattle.aplic_calls.specs.declared.Sent.{Sent}
+use Rattle.aplic_calls.specs.declared.Sent.the-variants.{Forwarded, Idle}
 
 -- ---- a wire
 unfoldable pub wireTable : ℕ → Bool → Table → Table

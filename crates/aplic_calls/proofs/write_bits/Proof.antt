@@ -1,7 +1,7 @@
-use Rattle.aplic.proofs.Tables.{bit-arms}
+use Rattle.aplic_calls.proofs.Tables.{bit-arms}
 use borrow.Author.Needs.{needs}
-use Rattle.aplic.proofs.write_bits.Statement.{statement}
-use Rattle.aplic.proofs.write_bits.Tie as tie
+use Rattle.aplic_calls.proofs.write_bits.Statement.{statement}
+use Rattle.aplic_calls.proofs.write_bits.Tie as tie
 
 pub write-bits-spec : {M : Type 1} → statement M
 write-bits-spec =

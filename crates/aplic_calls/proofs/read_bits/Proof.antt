@@ -1,7 +1,7 @@
-use Rattle.aplic.proofs.Tables.{shows}
+use Rattle.aplic_calls.proofs.Tables.{shows}
 use borrow.Author.Needs.{needs}
-use Rattle.aplic.proofs.read_bits.Statement.{statement}
-use Rattle.aplic.proofs.read_bits.Tie as tie
+use Rattle.aplic_calls.proofs.read_bits.Statement.{statement}
+use Rattle.aplic_calls.proofs.read_bits.Tie as tie
 
 pub read-bits-spec : {M : Type 1} → statement M
 read-bits-spec =

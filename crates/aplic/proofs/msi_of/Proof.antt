@@ -1,7 +1,0 @@
-use borrow.Author.Needs.{needs}
-use Rattle.aplic.proofs.Domains.{fields}
-use Rattle.aplic.proofs.msi_of.Statement.{statement}
-use Rattle.aplic.proofs.msi_of.Tie as tie
-
-pub msi-of-spec : {M : Type 1} → statement M
-msi-of-spec = tie.close (tie.spec (λ c. search (fields, needs)))
