@@ -9,6 +9,7 @@
 
 pub mod aplic;
 pub mod check;
+pub mod clauses;
 pub mod coverage;
 pub mod damage;
 pub mod device;

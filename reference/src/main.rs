@@ -5,6 +5,7 @@ use std::process::ExitCode;
 
 use yasmurekh_reference::aplic;
 use yasmurekh_reference::check;
+use yasmurekh_reference::clauses;
 use yasmurekh_reference::coverage::Coverage;
 use yasmurekh_reference::generate::list;
 use yasmurekh_reference::text::{rerun, write_list, Rerun};
@@ -14,6 +15,7 @@ const USAGE: &str = "usage:
   reference coverage [--seed S] [--count N]        run N generated calls (1000000), print coverage
   reference lists --seed S --from A --count N      print generated lists with their answers
   reference rerun                                  run lists from standard input again, compare
+  reference clauses                                answer rows of clauses from standard input
   reference aplic coverage|lists|rerun ..          the same for the wired domain";
 
 fn main() -> ExitCode {
@@ -24,6 +26,7 @@ fn main() -> ExitCode {
             Ok(true)
         }
         Some("check") if words.len() == 1 => Ok(run_checks()),
+        Some("clauses") if words.len() == 1 => answer_clauses(),
         Some("aplic") => run_command(&words[1..], &APLIC),
         _ => run_command(&words, &IOMMU),
     };
@@ -165,12 +168,26 @@ fn print_lists(options: &[String], program: &Program) -> Result<bool, String> {
     Ok(true)
 }
 
-fn run_again(program: &Program) -> Result<bool, String> {
+/// Standard input as text.
+fn input() -> Result<String, String> {
     let mut text = String::new();
-    if std::io::stdin().read_to_string(&mut text).is_err() {
-        return Err("standard input can't be read as text".to_string());
+    match std::io::stdin().read_to_string(&mut text) {
+        Ok(_) => Ok(text),
+        Err(_) => Err("standard input can't be read as text".to_string()),
     }
-    let result = (program.rerun)(&text)?;
+}
+
+/// Answers rows of clauses; what breaks their format is told on standard error.
+fn answer_clauses() -> Result<bool, String> {
+    let answered = clauses::run(&input()?, &mut std::io::stdout().lock());
+    if let Err(text) = &answered {
+        eprintln!("{text}");
+    }
+    Ok(answered.is_ok())
+}
+
+fn run_again(program: &Program) -> Result<bool, String> {
+    let result = (program.rerun)(&input()?)?;
     for line in &result.different {
         println!("different: {line}");
     }

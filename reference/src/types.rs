@@ -66,6 +66,17 @@ impl Stage {
             Stage::MessageTable => "message table",
         }
     }
+
+    /// The number that include/yasmurekh.h gives the stage.
+    pub fn number(self) -> u64 {
+        match self {
+            Stage::Directory => 0,
+            Stage::ProcessDirectory => 1,
+            Stage::First => 2,
+            Stage::Second => 3,
+            Stage::MessageTable => 4,
+        }
+    }
 }
 
 #[derive(Clone, Copy, Debug, PartialEq, Eq)]

@@ -1,1 +1,1 @@
-pub mod States
+mod Calls

@@ -11,7 +11,7 @@ ghost use Rattle.hart.specs.Hart.{hartRefusal};
 ghost use Rattle.aplic_calls.specs.Direct.{claimed, claimValue, claims, signalled};
 ghost use Rattle.aplic_calls.specs.Calls.{wireTable, wireRefusal, writeTable, ignores, readTable, afterRead, forwardTable, sentOf};
 ghost use Rattle.aplic_calls.specs.declared.Sent.the-variants.{Idle};
-ghost use Rattle.aplic_state.specs.State.{deliveryIn, tableIn};
+ghost use Rattle.aplic_words.specs.State.{deliveryIn, tableIn};
 ghost use Rattle.capi_room.specs.Room.{status};
 ghost use Rattle.capi_aplic.specs.Wired.{domainStatus, roomStatus, underStatus, withSent};
 
@@ -45,7 +45,7 @@ pub extern "C" fn yasmurekh_aplic_write(state: &mut [u64], offset: u64, value: u
     if state.len() < 87 {
         return 1;
     }
-    aplic_state::write(state, offset, value);
+    aplic_write::write(state, offset, value);
     0
 }
 
@@ -87,7 +87,7 @@ pub extern "C" fn yasmurekh_aplic_claim(state: &mut [u64], hart: u64, out: &mut 
     }
     let refusal = hart::refusal(hart);
     if refusal == 0 {
-        let taken = aplic_state::claim(state, hart);
+        let taken = aplic_hart::claim(state, hart);
         out[0] = taken as u64;
     }
     refusal
@@ -108,7 +108,7 @@ pub extern "C" fn yasmurekh_aplic_signal(state: &mut [u64], hart: u64, out: &mut
     }
     let refusal = hart::refusal(hart);
     if refusal == 0 {
-        out[0] = hart::flag(aplic_state::signal(state, hart)) as u64;
+        out[0] = hart::flag(aplic_hart::signal(state, hart)) as u64;
     }
     refusal
 }

@@ -10,7 +10,7 @@ use Rattle.directory_process.specs.declared.ProcessId.{ProcessId}
 use Rattle.iommu.specs.declared.Answer.{Answer}
 use Rattle.iommu.specs.declared.Answer.the-variants.{Refused}
 use Rattle.iommu.specs.declared.Numbers.{Numbers}
-use Rattle.iommu.specs.Answers.{numbersOf}
+use Rattle.iommu.specs.Answers.{numbersOf, Answered}
 use Rattle.iommu.specs.Request.{requestOf, afterRequest}
 use Rattle.capi_room.specs.Room.{fitting}
 use Rattle.capi_room.proofs.Rooms.{long-changed, room-ways}
@@ -45,10 +45,10 @@ module _ (start mode root device process flags access address len value : ℕ) (
 
     module _ (h : flags ≤ 3) (p : ProcessId) (hp : p ≡ processOf flags process) where
       pub face-answers : (a : Answer)
-          → a ≡ requestOf (record { start = start; mode = mode; root = root }) bytes (record { device = device; process = p; supervisor = leb 2 flags; access = x; address = address; length = len }) value
+          → Answered a (requestOf (record { start = start; mode = mode; root = root }) bytes (record { device = device; process = p; supervisor = leb 2 flags; access = x; address = address; length = len }) value)
           → a ≡ requestFace start mode root device process flags access address len value bytes
       unfolding requestFace
-      face-answers a w = w ∙ simp (hp, ← hk, e, le-ltb 3 flags h)
+      face-answers a w = w .same ∙ simp (hp, ← hk, e, le-ltb 3 flags h)
 
       pub face-bytes : (after : List ℕ)
           → after ≡ afterRequest (record { start = start; mode = mode; root = root }) bytes (record { device = device; process = p; supervisor = leb 2 flags; access = x; address = address; length = len }) value
@@ -61,4 +61,7 @@ pub ruleset face-ways = (access-unknown, unknown-bytes, flags-unknown, flags-byt
 pub long-answer : (n : ℕ) (out before x : List ℕ) (a b : Answer) → n ≤ length out → x ≡ withAnswer out a → a ≡ b → x ≡ fitting n out before (withAnswer out b)
 long-answer n out before x a b h e k = long-changed n out before (withAnswer out b) x h (e ∙ ap (withAnswer out) k)
 
-pub ruleset buffer-ways = (room-ways, long-answer)
+pub long-answered : (n : ℕ) (out before x : List ℕ) (a b : Answer) → n ≤ length out → x ≡ withAnswer out a → Answered a b → x ≡ fitting n out before (withAnswer out b)
+long-answered n out before x a b h e k = long-answer n out before x a b h e (k .same)
+
+pub ruleset buffer-ways = (room-ways, long-answer, long-answered)

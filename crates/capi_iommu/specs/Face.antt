@@ -1,17 +1,15 @@
 -- The face for C: numbers for what the routines take and answer (D26). Nothing of a request's meaning stands here.
-use Prim.Native.Nat.{ℕ, zero, suc, _+_, _*_, _%_}
+use Prim.Native.Nat.{ℕ, _%_}
 use mathlib.Core.Bool.{Bool}
 use mathlib.Core.List.{List}
 use lib.Dec.{eqb, ltb, leb}
-use lib.ListN.{set, getD}
+use lib.ListN.{set}
 use Rattle.memory.specs.Choice.{pick}
 use Rattle.causes.specs.Causes.{stageNumber}
 use Rattle.causes.specs.declared.Access.{Access}
 use Rattle.causes.specs.declared.Access.the-variants.{Read, Write, Execute}
 use Rattle.directory_process.specs.declared.ProcessId.{ProcessId}
 use Rattle.directory_process.specs.declared.ProcessId.the-variants.{Absent, Given}
-use Rattle.interrupt_file.specs.declared.Pair.{Pair}
-use Rattle.interrupt_file.specs.declared.Report.{Report}
 use Rattle.iommu_refusals.specs.declared.Settings.{Settings}
 use Rattle.iommu_refusals.specs.declared.DeviceRequest.{DeviceRequest}
 use Rattle.iommu.specs.declared.Answer.{Answer}
@@ -46,18 +44,6 @@ stageOf (Taken w) = 0
 abbrev pub withAnswer : List ℕ → Answer → List ℕ
 withAnswer out a =
     set (set (set (set (set out 0 (numbersOf a .kind)) 1 (numbersOf a .first)) 2 (numbersOf a .second)) 3 (numbersOf a .third)) 4 (stageOf a)
-
--- the words from the third on: the pending and the enable doubleword of each of the first k pairs
-unfoldable pub withPairs : List ℕ → (ℕ → Pair) → ℕ → List ℕ
-withPairs out pair zero = out
-withPairs out pair (suc k) = set (set (withPairs out pair k) (2 + 2 * k) (pair k .pending)) (3 + 2 * k) (pair k .enable)
-
-abbrev pub noPair : Pair
-noPair = record { pending = 0; enable = 0 }
-
--- a report in 66 words: refusal, count, pairs
-abbrev pub withReport : List ℕ → Report → List ℕ
-withReport out r = set (withPairs (set out 0 (r .refusal)) (λ k. getD (r .pairs) k noPair) 32) 1 (r .count)
 
 -- an unknown access or flag is refused with 2010, as in a case file
 module _ (start mode root device process flags access address len value : ℕ) (bytes : List ℕ) where

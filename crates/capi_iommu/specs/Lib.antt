@@ -1,2 +1,2 @@
 pub mod Face
-pub mod Code
+pub mod Calls

@@ -28,7 +28,7 @@ guestPageBits = guestBits - 12
 unfoldable pub deviceMisconfigured : DeviceContext → Bool
 deviceMisconfigured c =
     any
-    ( -- 1 (and 2 to 7, 18 to 21): reserved bits of each doubleword
+    ( -- 1 (and 2 to 7 and 18 to 21, whose bits of tc, and 22, whose bits of ta, are reserved at the fixed capabilities): reserved bits of each doubleword. So SXL is 0, and 11, which asks SXL = 1, does not apply
     anySet (c .tc) 3 1
     ∷ anySet (c .tc) 8 6
     ∷ anySet (c .tc) 63 10
@@ -45,7 +45,7 @@ deviceMisconfigured c =
     ∷ (not (pdtv c) && not (validMode (c .fsc)))
     -- 12: PDTV = 0 and DPE = 1
     ∷ (not (pdtv c) && dpe c)
-    -- 13, 14: iohgatp's mode isn't Bare, Sv39x4, Sv48x4 or Sv57x4
+    -- 13, 14: iohgatp's mode isn't Bare, Sv39x4, Sv48x4 or Sv57x4. 15 asks GXL = 1, an RV32 scheme, which is out
     ∷ not (validMode (c .iohgatp))
     -- 16: msiptp's mode isn't Off or Flat
     ∷ not (leb (rootModeOf (c .msiptp)) 1)

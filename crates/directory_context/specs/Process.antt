@@ -21,6 +21,6 @@ processMisconfigured c =
     anySet (c .ta) 11 3
     ∷ anySet (c .ta) 63 32
     ∷ anySet (c .fsc) 59 44
-    -- 2, 3: the mode isn't Bare, Sv39, Sv48 or Sv57
+    -- 2, 3: the mode isn't Bare, Sv39, Sv48 or Sv57. 4 asks SXL = 1, which is reserved here
     ∷ not (validMode (c .fsc))
     ∷ [])

@@ -17,17 +17,15 @@ use Rattle.memory.proofs.Choices.{yes-by, no-by}
 use Rattle.memory.proofs.Loads.{memory-in}
 use Rattle.memory.proofs.Truth.{and-true}
 use Rattle.memory.proofs.Walks.{then, loads, at}
-use Rattle.causes.specs.declared.Access.{Access}
 use Rattle.causes.specs.declared.FaultInfo.{FaultInfo}
-use Rattle.paging.specs.Stages.{direct, secondStageOf}
-use Rattle.paging.specs.declared.PageTable.{PageTable}
+use Rattle.paging.specs.Stages.{direct}
 use Rattle.paging_entry.specs.declared.Translation.{Translation}
 use Rattle.paging_entry.specs.declared.Translation.the-variants.{To}
 use Rattle.directory_entry.specs.declared.Tree.the-variants.{Device}
-use Rattle.directory_entry.specs.Entries.{loadFault, invalid, misconfigured}
-use Rattle.directory_entry.specs.Fields.{secondTable}
+use Rattle.directory_entry.specs.Entries.{loadFault, invalid, misconfigured, directoryIndex, pointerOf, leafSize}
 use Rattle.directory_entry.proofs.Entries.{context-unread, context-invalid, context-valid, found-below}
-use Rattle.directory_walk.specs.Pointers.{guestPlace, leafPlace}
+use Rattle.directory_walk.specs.Pointers.{leafPlace}
+use Rattle.directory_walk.proofs.Pointers.{pointers-end, pointers-stop, pointers-go, fault-below}
 use Rattle.directory_context.specs.declared.DeviceContext.{DeviceContext}
 use Rattle.directory_context.specs.declared.DecodedContext.{DecodedContext}
 use Rattle.directory_context.specs.Device.{deviceMisconfigured, decodedOf}
@@ -172,20 +170,35 @@ module _ (start a tc reserved : ℕ) (s : List ℕ) (v u : Load)
 
 pub ruleset device-context-ways = (device-unread, device-invalid, device-cut, device-low, device-room, device-read)
 
--- the context of a device, by where it lies
-module _ (m : ℕ → Load) (levels root d : ℕ) (g : PageTable) (x : Access) (y : Translation)
-    (hg : g ≡ secondTable 0) (hy : y ≡ run m (leafPlace Device d (guestPlace g x) (levels - 1) (root * 4096))) where
-  placed : y ≡ run m (leafPlace Device d direct (levels - 1) (root * 4096))
-  unfolding secondStageOf
-  placed = hy ∙ ap (λ (k : PageTable). run m (leafPlace Device d (guestPlace k x) (levels - 1) (root * 4096))) hg
+-- a turn of the walk to where the context lies, with left - 1 levels above it: i is the index there, w the whole walk's answer
+module _ (m : ℕ → Load) (d left table i : ℕ) (w : Translation)
+    (hw : run m (leafPlace Device d direct (left - 1) table) ≡ w) where
+  pub walk-ends : left ≤ 1 → (k : ℕ) → i ≡ directoryIndex Device d 0 → k ≡ leafSize Device * i → To (table + k) ≡ w
+  walk-ends p k hi hk = pointers-end m Device d direct left table i (To (table + k)) w hw p k hi hk refl
 
+  module _ (p : 1 < left) (hi : i ≡ directoryIndex Device d (left - 1)) (v : Load) (y : Translation)
+      (hv : v ≡ m (table + 8 * i)) (hy : y ≡ pointerOf Device v) where
+    pub walk-stops : (f : FaultInfo) → y ≡ Translation.Fault f → y ≡ w
+    walk-stops f e = pointers-stop m Device d direct left table i (To (table + 8 * i)) w hw p hi refl (table + 8 * i) v y refl hv hy f e
+
+    pub walk-goes : (k : ℕ) → y ≡ To k → run m (leafPlace Device d direct (left - 1 - 1) k) ≡ w
+    walk-goes k e = pointers-go m Device d direct left table i (To (table + 8 * i)) w hw p hi refl (table + 8 * i) v y refl hv hy k e
+
+pub leaf-below : (table k : ℕ) → table < 2 ^ 56 → k < 2 ^ 15 → table + k < 2 ^ 60
+leaf-below table k h l = omega arith
+
+pub ruleset device-place-ways = (walk-ends, walk-stops, walk-goes, leaf-below, fault-below, found-below)
+
+-- the context of a device, by where it lies
+module _ (m : ℕ → Load) (levels root d : ℕ) (y : Translation)
+    (hy : y ≡ run m (leafPlace Device d direct (levels - 1) (root * 4096))) where
   pub device-unfound : (f h : FaultInfo) → y ≡ Translation.Fault f → ((k : FaultInfo) → y ≡ Translation.Fault k → h ≡ k) → Fault h ≡ run m (deviceContextOf levels root d)
   unfolding deviceContextOf
   device-unfound f h e k =
-      then m (leafPlace Device d direct (levels - 1) (root * 4096)) onDevicePlace placed (at m onDevicePlace e (ap Fault (k f e)))
+      then m (leafPlace Device d direct (levels - 1) (root * 4096)) onDevicePlace hy (at m onDevicePlace e (ap Fault (k f e)))
 
   pub device-found : (a : ℕ) (z : DeviceFound) → y ≡ To a → z ≡ run m (deviceContextAt a) → z ≡ run m (deviceContextOf levels root d)
   unfolding deviceContextOf
-  device-found a z e h = then m (leafPlace Device d direct (levels - 1) (root * 4096)) onDevicePlace placed (at m onDevicePlace e h)
+  device-found a z e h = then m (leafPlace Device d direct (levels - 1) (root * 4096)) onDevicePlace hy (at m onDevicePlace e h)
 
 pub ruleset device-ways = (device-unfound, device-found, found-below)

@@ -1,5 +1,4 @@
 // The device directory: the context of a device.
-use causes::Access;
 use causes::FaultInfo;
 use directory_context::DecodedContext;
 use directory_context::DeviceContext;
@@ -8,9 +7,12 @@ use memory::Load;
 use paging_entry::Translation;
 ghost use mathlib.Core.Path.{_≡_};
 ghost use lib.ListN.{length};
-ghost use Prim.Native.Nat.{_+_, _<_, _≤_, _^_};
+ghost use Prim.Native.Nat.{_+_, _-_, _*_, _<_, _≤_, _^_};
 ghost use Rattle.memory.specs.Window.{doubleword, memory};
 ghost use Rattle.memory.specs.Walk.{run};
+ghost use Rattle.paging.specs.Stages.{direct};
+ghost use Rattle.directory_entry.specs.Code.{Below};
+ghost use Rattle.directory_walk.specs.Pointers.{leafPlace};
 ghost use Rattle.directory_device.specs.Device.{checkedDevice, deviceContextAt, deviceContextOf};
 ghost use Rattle.directory_device.specs.Code.{SoundFound};
 
@@ -77,23 +79,32 @@ fn device_context_at(start: u64, window: &[u8], a: u64) -> DeviceFound
     checked_device(words_at(window, (a - start) as usize, tc, reserved))
 }
 
+// From the root's page to where the context of a device lies. A loop of its own beside the process directory's, which asks the second stage at each step: this one has one caller and is inlined there.
+fn device_place(levels: u64, root: u64, d: u64, start: u64, window: &[u8]) -> Translation
+    requires { ⌜ root < 2 ^ 44 ⌝ }
+    ensures { λ r. ⌜ (r ≡ run (memory start (now (window .entry))) (leafPlace Tree.Device d direct (levels - 1) (root * 4096))) × Below (2 ^ 60) r ⌝ }
+{
+    let mut left = levels;
+    let mut table = root * 4096;
+    while 1 < left {
+        left -= 1;
+        let at = table + 8 * directory_entry::directory_index(Tree::Device, d, left);
+        let next = directory_entry::pointer(Tree::Device, memory::load64(start, window, at));
+        let Translation::To(below) = next else {
+            return next;
+        };
+        table = below;
+    }
+    let i = directory_entry::directory_index(Tree::Device, d, 0);
+    Translation::To(table + directory_entry::leaf_offset(Tree::Device, i))
+}
+
 // The context of a device, from the directory's root page and number of levels.
 pub fn device_context(levels: u64, root: u64, d: u64, start: u64, window: &[u8]) -> DeviceFound
     requires { ⌜ root < 2 ^ 44 ⌝ }
     ensures { λ r. ⌜ (r ≡ run (memory start (now (window .entry))) (deviceContextOf levels root d)) × SoundFound r ⌝ }
 {
-    // A Bare second stage.
-    let g = directory_entry::second_table(0);
-    let place = directory_walk::leaf_place(
-        Tree::Device,
-        g,
-        Access::Read,
-        d,
-        levels,
-        root,
-        start,
-        window,
-    );
+    let place = device_place(levels, root, d, start, window);
     let Translation::To(a) = place else {
         return DeviceFound::Fault(directory_walk::fault_of(place));
     };

@@ -35,27 +35,27 @@ one-less left p = omega arith
 none-left : (left : ℕ) → left ≤ 1 → left - 1 ≡ 0
 none-left left p = omega arith
 
--- with left - 1 levels above the leaf: i is the index there, r where the entry lies, w the whole walk's answer
-module _ (m : ℕ → Load) (t : Tree) (id : ℕ) (g : PageTable) (x : Access) (left table i : ℕ) (r w : Translation)
-    (hw : run m (leafPlace t id (guestPlace g x) (left - 1) table) ≡ w) where
-  pub pointers-end : left ≤ 1 → (k : ℕ) → i ≡ directoryIndex t id 0 → k ≡ leafSize t * i → r ≡ run m (guestPlace g x (table + k)) → r ≡ w
+-- with left - 1 levels above the leaf, wherever an entry lies: i is the index there, r where the entry lies, w the whole walk's answer
+module _ (m : ℕ → Load) (t : Tree) (id : ℕ) (place : ℕ → Walk Translation) (left table i : ℕ) (r w : Translation)
+    (hw : run m (leafPlace t id place (left - 1) table) ≡ w) where
+  pub pointers-end : left ≤ 1 → (k : ℕ) → i ≡ directoryIndex t id 0 → k ≡ leafSize t * i → r ≡ run m (place (table + k)) → r ≡ w
   unfolding leafPlace
   pointers-end p k hi hk hr =
       hr
-      ∙ ap (λ n. run m (guestPlace g x (table + n))) (hk ∙ ap (λ n. leafSize t * n) hi)
-      ∙ sym (ap (λ n. run m (leafPlace t id (guestPlace g x) n table)) (none-left left p))
+      ∙ ap (λ n. run m (place (table + n))) (hk ∙ ap (λ n. leafSize t * n) hi)
+      ∙ sym (ap (λ n. run m (leafPlace t id place n table)) (none-left left p))
       ∙ hw
 
-  module _ (p : 1 < left) (hi : i ≡ directoryIndex t id (left - 1)) (hr : r ≡ run m (guestPlace g x (table + 8 * i))) where
+  module _ (p : 1 < left) (hi : i ≡ directoryIndex t id (left - 1)) (hr : r ≡ run m (place (table + 8 * i))) where
     abbrev rest : ℕ → Walk Translation
-    rest = leafPlace t id (guestPlace g x) (left - 1 - 1)
+    rest = leafPlace t id place (left - 1 - 1)
 
     turned : {y : Translation} → y ≡ run m (onPointerPlace t rest r) → y ≡ w
     unfolding leafPlace
     turned e =
-        then m (guestPlace g x (table + 8 * directoryIndex t id (suc (left - 1 - 1)))) (onPointerPlace t rest)
-        (hr ∙ ap (λ j. run m (guestPlace g x (table + 8 * j))) (hi ∙ ap (directoryIndex t id) (sym (one-less left p)))) e
-        ∙ ap (λ k. run m (leafPlace t id (guestPlace g x) k table)) (one-less left p)
+        then m (place (table + 8 * directoryIndex t id (suc (left - 1 - 1)))) (onPointerPlace t rest)
+        (hr ∙ ap (λ j. run m (place (table + 8 * j))) (hi ∙ ap (directoryIndex t id) (sym (one-less left p)))) e
+        ∙ ap (λ k. run m (leafPlace t id place k table)) (one-less left p)
         ∙ hw
 
     pub pointers-unplaced : (f : FaultInfo) → r ≡ Fault f → r ≡ w
@@ -71,7 +71,7 @@ module _ (m : ℕ → Load) (t : Tree) (id : ℕ) (g : PageTable) (x : Access) (
       pub pointers-stop : (f : FaultInfo) → y ≡ Fault f → y ≡ w
       pointers-stop f e = placed (at m (onPointed rest) e e)
 
-      pub pointers-go : (k : ℕ) → y ≡ To k → run m (leafPlace t id (guestPlace g x) (left - 1 - 1) k) ≡ w
+      pub pointers-go : (k : ℕ) → y ≡ To k → run m (leafPlace t id place (left - 1 - 1) k) ≡ w
       pointers-go k e = placed (at m (onPointed rest) e refl)
 
 -- where an entry lies is no number too large for what follows

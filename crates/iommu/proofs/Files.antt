@@ -6,6 +6,7 @@ use lib.ListN.{length}
 use Rattle.interrupt_file.specs.File.{pendingOf, afterTake}
 use Rattle.interrupt_file.specs.Report.{fileReport, refusedReport}
 use Rattle.interrupt_file.specs.declared.Report.{Report}
+use Rattle.iommu.proofs.Answers.{answered}
 use Rattle.iommu_refusals.specs.Refusals.{takeRefusal, reportRefusal}
 use Rattle.iommu_refusals.proofs.Bounds.{passed, stopped, take-in-window, take-identity, file-above, file-fits}
 use Rattle.iommu.specs.declared.Answer.the-variants.{Refused, Taken}
@@ -31,7 +32,7 @@ module _ (start : ℕ) (bytes : List ℕ) (file n r : ℕ) (h : r ≡ takeRefusa
   unfolding afterTakeOf
   take-kept z = stopped r _ (λ k. bytes) _ _ h z refl
 
-pub ruleset take-ways = (take-passed, take-refused, take-cleared, take-kept, take-in-window, take-identity)
+pub ruleset take-ways = (answered, take-passed, take-refused, take-cleared, take-kept, take-in-window, take-identity)
 
 module _ (start : ℕ) (bytes : List ℕ) (file r : ℕ) (h : r ≡ reportRefusal start (length bytes) file) (x : Report) where
   pub report-made : r ≡ 0 → x ≡ fileReport bytes (file - start) → x ≡ reportOf start bytes file

@@ -1,3 +1,4 @@
 pub mod Answers
 pub mod Files
 pub mod Requests
+pub mod Frame

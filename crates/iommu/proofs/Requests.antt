@@ -22,6 +22,7 @@ use Rattle.iommu_refusals.specs.Refusals.{requestRefusal}
 use Rattle.iommu_translation.specs.Translate.{translateOf}
 use Rattle.causes.specs.Causes.{isWrite}
 use Rattle.iommu.specs.Request.{reversed, identityOf, storableAs, finish, storedBy, requestOf, afterRequest}
+use Rattle.iommu.proofs.Answers.{answered}
 use Rattle.iommu_refusals.proofs.Bounds.{passed, stopped, accepted-mode, accepted-root}
 
 -- the identity
@@ -142,4 +143,4 @@ module _ (s : Settings) (bytes : List ℕ) (q : DeviceRequest) (value r : ℕ) (
     unfolding afterRequest
     request-bytes p a after e h k = k ∙ ap (storedBy (s .start) bytes q value) (request-finishes p a e h)
 
-pub ruleset request-ways = (request-refused, refused-bytes, request-finishes, request-bytes, request-translates, request-redirects, request-faults, translated-bytes, redirected-bytes, faulted-bytes, accepted-mode, accepted-root)
+pub ruleset request-ways = (answered, request-refused, refused-bytes, request-finishes, request-bytes, request-translates, request-redirects, request-faults, translated-bytes, redirected-bytes, faulted-bytes, accepted-mode, accepted-root)

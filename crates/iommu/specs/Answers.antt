@@ -1,5 +1,6 @@
 -- 01's number and values for each case of an answer (01, "What a request holds"). A fault's stage stands in its FaultInfo.
 use Prim.Native.Nat.{ℕ}
+use mathlib.Core.Path.{_≡_}
 use Rattle.iommu.specs.declared.Answer.{Answer}
 use Rattle.iommu.specs.declared.Answer.the-variants.{Translated, Redirected, Stored, Discarded, Fault, Refused, Taken}
 use Rattle.iommu.specs.declared.Numbers.{Numbers}
@@ -15,3 +16,8 @@ numbersOf Discarded = numbers 3 0 0 0
 numbersOf (Fault f) = numbers 4 (f .cause) 0 0
 numbersOf (Refused r) = numbers 5 r 0 0
 numbersOf (Taken w) = numbers 6 w 0 0
+
+-- what a routine promises of its answer r: it is a, and has the number and the values that this paper gives a
+pub record Answered (r a : Answer) : Type 0 where
+  pub same : r ≡ a
+  pub numbered : numbersOf r ≡ numbersOf a

@@ -1,3 +1,4 @@
 pub mod Answers
 pub mod Request
 pub mod Files
+pub mod Operations

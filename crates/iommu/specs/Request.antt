@@ -1,12 +1,13 @@
 -- The whole request: the checks, the walk, and the finish; the answer, the bytes after, and the addresses read.
-use Prim.Native.Nat.{ℕ, _+_, _*_, _%_}
-use mathlib.Core.Bool.{Bool, _&&_, _||_}
-use mathlib.Core.List.{List, []}
+use Prim.Native.Nat.{ℕ, _+_, _-_, _*_, _%_, _<_}
+use mathlib.Core.Path.{_≡_}
+use mathlib.Core.Bool.{Bool, true, _&&_, _||_}
+use mathlib.Core.List.{List, [], _∷_}
 use lib.Dec.{eqb, leb}
-use lib.ListN.{length}
+use lib.ListN.{length, getD}
 use Rattle.memory.specs.Choice.{pick, unlessRefused}
 use Rattle.memory.specs.Bits.{bits}
-use Rattle.memory.specs.Window.{memory}
+use Rattle.memory.specs.Window.{inside, memory}
 use Rattle.memory.specs.Walk.{run, trace}
 use Rattle.causes.specs.Causes.{isWrite}
 use Rattle.interrupt_file.specs.File.{isFile, afterStore}
@@ -66,3 +67,9 @@ afterRequest s bytes q d = storedBy (s .start) bytes q d (requestOf s bytes q d)
 -- the addresses of the doublewords that a request reads as tables: none where a check refuses it first
 unfoldable pub readsOf : Settings → List ℕ → DeviceRequest → List ℕ
 readsOf s bytes q = unlessRefused (requestRefusal s (length bytes) q) (λ r. []) (trace (memory (s .start) bytes) (translateOf s q))
+
+-- two windows at one start have the same bytes in each doubleword that is read at an address of a list, where it lies in the window
+abbrev pub SameAt : ℕ → List ℕ → List ℕ → List ℕ → Type 0
+SameAt start xs ys [] = Unit {0}
+SameAt start xs ys (p ∷ ps) =
+    (inside start (length xs) p 8 ≡ true → (k : ℕ) → k < 8 → getD xs (p - start + k) 0 ≡ getD ys (p - start + k) 0) × SameAt start xs ys ps

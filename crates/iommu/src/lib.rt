@@ -7,7 +7,7 @@ use iommu_translation::Outcome;
 use message::Destination;
 ghost use mathlib.Core.Path.{_≡_};
 ghost use lib.ListN.{length};
-ghost use Rattle.iommu.specs.Answers.{numbers as numbersBy, numbersOf};
+ghost use Rattle.iommu.specs.Answers.{numbers as numbersBy, numbersOf, Answered};
 ghost use Rattle.iommu.specs.Request.{reversed as reversedOf, identityOf, storableAs, finish as finishOf, storedBy, requestOf, afterRequest};
 ghost use Rattle.iommu.specs.Files.{takeOf, afterTakeOf, reportOf};
 
@@ -63,7 +63,7 @@ fn numbered(kind: u64, first: u64) -> Numbers
 
 // Takes a pending interrupt of a file.
 pub fn take(start: u64, window: &mut [u8], file: u64, identity: u64) -> Answer
-    ensures answer { λ r. ⌜ r ≡ takeOf start (now (window .entry)) file identity ⌝ }
+    ensures answer { λ r. ⌜ Answered r (takeOf start (now (window .entry)) file identity) ⌝ }
     ensures bytes { λ _. ⌜ now (window .exit) ≡ afterTakeOf start (now (window .entry)) file identity ⌝ }
 {
     let refusal = iommu_refusals::take_refusal(start, window.len() as u64, file, identity);
@@ -142,7 +142,7 @@ fn record_message(
 
 // One request, one answer.
 pub fn request(s: Settings, window: &mut [u8], q: DeviceRequest, value: u32) -> Answer
-    ensures answer { λ r. ⌜ r ≡ requestOf s (now (window .entry)) q value ⌝ }
+    ensures answer { λ r. ⌜ Answered r (requestOf s (now (window .entry)) q value) ⌝ }
     ensures bytes { λ _. ⌜ now (window .exit) ≡ afterRequest s (now (window .entry)) q value ⌝ }
 {
     let number = iommu_refusals::request_refusal(s, window.len() as u64, q);

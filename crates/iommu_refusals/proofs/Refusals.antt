@@ -1,9 +1,9 @@
 -- The checks before the walk, by the tests that the code makes. Assumes nothing.
 use Prim.Native.Nat.{ℕ, _+_, _-_, _%_, _^_, _<_, _≤_}
-use mathlib.Core.Bool.{Bool, true, false, _&&_, _||_}
+use mathlib.Core.Bool.{Bool, true, false, not, _&&_, _||_}
 use mathlib.Core.Path.{_≡_, refl, sym, ap, _∙_}
 use native.Mathlib.Omega.{arith}
-use lib.Dec.{leb, ltb}
+use lib.Dec.{eqb, leb, ltb}
 use borrow.Author.Tests.{ne-eqb, lt-ltb, le-ltb, ltb-false, leb-false}
 use Rattle.memory.proofs.Choices.{ltb-same}
 use Rattle.directory_process.specs.declared.ProcessId.{ProcessId}
@@ -17,35 +17,46 @@ use Rattle.iommu_refusals.specs.Refusals.{badWindow, badDirectory, badPr
 pub is-number : {n r : ℕ} (k : ℕ) → k ≡ r → n ≡ k → n ≡ r
 is-number k h e = e ∙ h
 
--- 2001
+-- 2001: the first two tests joined
+no-way : _≡_ {A = ℕ} 0 1 → ⊥
+no-way e = omega arith
+
+abbrev number : Bool → ℕ
+number true = 1
+number false = 0
+
+either : (a b c : Bool) → a || b ≡ true → true ≡ a || (b || c)
+either true b c h = refl
+either false true c h = refl
+either false false c h = absurd (no-way (ap number h))
+
+neither : (a b c : Bool) → a || b ≡ false → c ≡ a || (b || c)
+neither false false c h = refl
+neither false true c h = absurd (no-way (sym (ap number h)))
+neither true b c h = absurd (no-way (sym (ap number h)))
+
 module _ (start len : ℕ) where
-  pub window-off : (start % 4096 ≡ 0 → ⊥) → true ≡ badWindow start len
+  abbrev off : Bool
+  off = not (eqb (start % 4096) 0) || not (eqb (len % 4096) 0)
+
+  pub window-off : off ≡ true → true ≡ badWindow start len
   unfolding badWindow
-  window-off h = simp (ne-eqb (start % 4096) 0 h)
+  window-off h = either (not (eqb (start % 4096) 0)) (not (eqb (len % 4096) 0)) _ h
 
-  module _ (a : start % 4096 ≡ 0) where
-    pub length-off : (len % 4096 ≡ 0 → ⊥) → true ≡ badWindow start len
+  module _ (h : off ≡ false) where
+    pub window-high : 72057594037927936 < start → true ≡ badWindow start len
     unfolding badWindow
-    length-off h = simp (a, ne-eqb (len % 4096) 0 h)
+    window-high k = sym (lt-ltb (2 ^ 56) (start + len) (omega arith)) ∙ neither (not (eqb (start % 4096) 0)) (not (eqb (len % 4096) 0)) _ h
 
-    module _ (b : len % 4096 ≡ 0) where
-      pub window-high : 72057594037927936 < start → true ≡ badWindow start len
-      unfolding badWindow
-      window-high h = simp (a, b, lt-ltb (2 ^ 56) (start + len) (omega arith))
+    pub window-end : start ≤ 72057594037927936 → ltb (72057594037927936 - start) len ≡ badWindow start len
+    unfolding badWindow
+    window-end k =
+        ltb-same (72057594037927936 - start) len (2 ^ 56) (start + len) (λ x. omega arith) (λ x. omega arith)
+        ∙ neither (not (eqb (start % 4096) 0)) (not (eqb (len % 4096) 0)) _ h
 
-      pub window-end : start ≤ 72057594037927936 → ltb (72057594037927936 - start) len ≡ badWindow start len
-      unfolding badWindow
-      window-end h = simp (a, b) (ltb-same (72057594037927936 - start) len (2 ^ 56) (start + len) (λ x. omega arith) (λ x. omega arith))
+pub ruleset window-ways = (window-off, window-high, window-end)
 
-pub ruleset window-ways = (window-off, length-off, window-high, window-end)
-
--- 2002, 2004 and 2006
-pub mode-high : (mode root : ℕ) → 4 < mode → true ≡ badDirectory mode root
-mode-high mode root h = simp (lt-ltb 4 mode h)
-
-pub root-off : (mode root : ℕ) → mode ≤ 4 → leb 17592186044416 root ≡ badDirectory mode root
-root-off mode root h = simp (le-ltb 4 mode h)
-
+-- 2004 and 2006
 pub process-is : (p : ProcessId) (n : ℕ) → p ≡ Given n → leb 1048576 n ≡ badProcess p
 process-is p n e = sym (ap badProcess e)
 
@@ -56,7 +67,7 @@ pub length-some : (address len : ℕ) → (len ≡ 0 → ⊥) → ltb (4096 - ad
 length-some address len h =
     simp (ne-eqb len 0 h) (ltb-same (4096 - address % 4096) len 4096 (address % 4096 + len) (λ x. omega arith) (λ x. omega arith))
 
-pub ruleset small-ways = (mode-high, root-off, process-is, length-none, length-some)
+pub ruleset small-ways = (process-is, length-none, length-some)
 
 unnamed-small : (s : Bool) (p : ProcessId) → (s && absent p) ≡ true → badProcess p ≡ false
 unnamed-small s Absent e = refl

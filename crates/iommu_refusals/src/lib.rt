@@ -32,26 +32,20 @@ const PASSED: u64 = 0;
 fn bad_window(start: u64, len: u64) -> bool
     ensures { λ r. ⌜ r ≡ badWindow start len ⌝ }
 {
-    if start % 4096 == 0 {
-        if len % 4096 == 0 {
-            if start <= 72057594037927936 {
-                return 72057594037927936 - start < len;
-            }
-            return true;
-        }
+    if (start % 4096 != 0) | (len % 4096 != 0) {
         return true;
     }
-    true
+    if 72057594037927936 < start {
+        return true;
+    }
+    72057594037927936 - start < len
 }
 
 // 2002: a directory mode that there is, and a root page below 2^56.
 fn bad_directory(mode: u64, root: u64) -> bool
     ensures { λ r. ⌜ r ≡ badDirectory mode root ⌝ }
 {
-    if 4 < mode {
-        return true;
-    }
-    17592186044416 <= root
+    (4 < mode) | (17592186044416 <= root)
 }
 
 // 2003.

@@ -29,7 +29,7 @@ use Rattle.directory_process.specs.declared.PageTableInfo.{PageTableInfo}
 use Rattle.directory_process.specs.declared.PageTableInfo.the-variants.{Use}
 use Rattle.directory_process.specs.Process.{firstTableOf}
 use Rattle.directory_process.specs.Code.{Rooted}
-use Rattle.message.specs.Recognition.{recognised}
+use Rattle.message_recognition.specs.Recognition.{recognised}
 use Rattle.message.specs.Table.{messageOf}
 use Rattle.message.specs.declared.Message.{Message}
 use Rattle.iommu_refusals.specs.declared.Settings.{Settings}

@@ -22,7 +22,7 @@ use Rattle.directory_device.specs.Device.{deviceContextOf}
 use Rattle.directory_process.specs.declared.PageTableInfo.{PageTableInfo}
 use Rattle.directory_process.specs.declared.PageTableInfo.the-variants.{Use}
 use Rattle.directory_process.specs.Process.{firstTableOf}
-use Rattle.message.specs.Recognition.{recognised}
+use Rattle.message_recognition.specs.Recognition.{recognised}
 use Rattle.message.specs.Table.{messageOf}
 use Rattle.message.specs.declared.Message.{Message}
 use Rattle.message.specs.declared.Message.the-variants.{Redirect, Record}

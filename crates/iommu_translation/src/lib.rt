@@ -66,7 +66,7 @@ fn is_message(c: DecodedContext, a: u64) -> bool
     ensures { λ r. ⌜ r ≡ isMessage c a ⌝ }
 {
     if c.messages {
-        return message::recognised(c.mask, c.pattern, a);
+        return message_recognition::recognised(c.mask, c.pattern, a);
     }
     false
 }

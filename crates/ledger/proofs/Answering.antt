@@ -3,18 +3,16 @@ use Prim.Native.Nat.{ℕ, zero, suc, _<_}
 use mathlib.Core.Path.{_≡_, refl, sym, ap, _∙_}
 use mathlib.Core.Logic.{_↔_}
 use mathlib.Core.Bool.{Bool, true, false, not, _&&_}
-use mathlib.Core.List.{List, [], _∷_}
+use mathlib.Core.List.{List, []}
 use native.Mathlib.Omega.{arith}
 use borrow.Author.Tests.{eq-eqb, ltb-false}
 use lib.Dec.{eqb, ltb}
 use lib.ListN.{length}
-use lib.Seq.{getD-set-other}
 use Rattle.memory.specs.Choice.{pick, unlessRefused}
 use Rattle.memory.specs.Window.{memory}
 use Rattle.memory.specs.Walk.{run}
 use Rattle.message.specs.declared.Destination.{Destination}
-use Rattle.interrupt_file.specs.File.{isFile, pendingOf, afterStore, afterTake}
-use Rattle.interrupt_file.proofs.Pending.{length-after-store, length-after-take}
+use Rattle.interrupt_file.specs.File.{isFile, pendingOf}
 use Rattle.iommu_refusals.specs.declared.DeviceRequest.{DeviceRequest}
 use Rattle.iommu_translation.specs.declared.Outcome.{Outcome}
 use Rattle.iommu.specs.declared.Answer.{Answer}
@@ -22,13 +20,14 @@ use Rattle.iommu.specs.declared.Answer.the-variants.{Translated, Redirected, St
 use Rattle.iommu.specs.Answers.{numbersOf}
 use Rattle.iommu_refusals.specs.Refusals.{badWindow, requestRefusal, takeRefusal}
 use Rattle.iommu_translation.specs.Translate.{translateOf}
-use Rattle.iommu.specs.Request.{identityOf, storable, finish, storedBy, requestOf, afterRequest}
-use Rattle.iommu.specs.Files.{takeOf, afterTakeOf}
-use Rattle.iommu.proofs.Files.{take-made, take-refused, take-cleared, take-kept}
+use Rattle.iommu.specs.Request.{identityOf, storable, finish, requestOf}
+use Rattle.iommu.specs.Files.{takeOf}
+use Rattle.iommu.proofs.Files.{take-made, take-refused}
 use Rattle.iommu.proofs.Requests.{record-stores, record-low, request-finishes}
-use Rattle.ledger.specs.Calls.{Op, request, take, Call, settings, answerOf, afterOf}
-use Rattle.ledger.specs.Ledger.{Event, store, successfulTake, nothing, eventOf, requestEvent, takeEvent}
-use Rattle.ledger.specs.Closes.{Storing, OneByte, noticeOf, noticesOf}
+use Rattle.iommu.specs.declared.Numbers.{Numbers}
+use Rattle.iommu.specs.Operations.{Lent, Op, request, take, settings, answerOf}
+use Rattle.ledger.specs.Ledger.{store, nothing, opEvent}
+use Rattle.ledger.specs.Closes.{Storing, noticesOf, noticeGiven}
 
 pub no-way : _≡_ {A = ℕ} 0 1 → ⊥
 no-way e = omega arith
@@ -53,26 +52,32 @@ finish-stores start len q value d (Outcome.Recorded n) e = go (storable q value)
 same-file : (start len f g : ℕ) → f ≡ g → isFile start len f ≡ true → isFile start len g ≡ true
 same-file start len f g e h = rw e at h
 
-module _ (start : ℕ) (bytes : List ℕ) (mode root : ℕ) (q : DeviceRequest) (value : ℕ) (d : Destination) where
-  pub stored-storing : requestOf (settings start mode root) bytes q value ≡ Stored d → Storing start bytes mode root q value d
+module _ (l : Lent) (mode root : ℕ) (q : DeviceRequest) (value : ℕ) (d : Destination) where
+  abbrev start : ℕ
+  start = l .start
+
+  abbrev bytes : List ℕ
+  bytes = l .bytes
+
+  pub stored-storing : requestOf (settings start mode root) bytes q value ≡ Stored d → Storing l mode root q value d
   unfolding requestOf
   stored-storing e = go (requestRefusal (settings start mode root) (length bytes) q) refl e
     where
       go : (r : ℕ) → requestRefusal (settings start mode root) (length bytes) q ≡ r
           → unlessRefused r Refused (finish start (length bytes) q value (run (memory start bytes) (translateOf (settings start mode root) q))) ≡ Stored d
-          → Storing start bytes mode root q value d
+          → Storing l mode root q value d
       go zero h z =
           let f = finish-stores start (length bytes) q value d _ z in
           record { unrefused = h; named = f .0; storing = f .1; within = same-file _ _ _ _ (omega arith) (f .2) }
       go (suc r) h z = absurd (no-way (cc))
 
-  pub storing-stored : Storing start bytes mode root q value d → requestOf (settings start mode root) bytes q value ≡ Stored d
+  pub storing-stored : Storing l mode root q value d → requestOf (settings start mode root) bytes q value ≡ Stored d
   storing-stored s =
       sym (request-finishes (settings start mode root) bytes q value 0 (sym (s .unrefused)) refl (Outcome.Recorded d) (sym (s .named))
       (Outcome.Recorded d) (Stored d) refl
       (record-stores start bytes q value (identityOf q value) d true refl (sym (s .storing)) true refl (sym (s .within)) refl))
 
-  pub stored-low : Storing start bytes mode root q value d → identityOf q value < 2048
+  pub stored-low : Storing l mode root q value d → identityOf q value < 2048
   stored-low s = record-low q (identityOf q value) true (sym (s .storing)) refl
 
 -- 4: takes
@@ -110,108 +115,70 @@ module _ (start : ℕ) (bytes : List ℕ) (file n : ℕ) where
       go (suc k) h =
           let t = take-refused start bytes file n (suc k) (sym h) (λ z. omega arith) in absurd (no-way (cc))
 
--- 6: the bytes
-module _ (start : ℕ) (bytes : List ℕ) (file n : ℕ) where
-  pub store-one-byte : OneByte start bytes (afterStore start bytes file n) file n
-  unfolding afterStore
-  store-one-byte = record { long = length-after-store start bytes file n; others = λ i h. getD-set-other bytes _ i _ 0 (λ p. h (omega (arith, p))) }
+-- an answer is told by its numbers
+same-destination : (d e : Destination) → d .file ≡ e .file → d .notice ≡ e .notice → d .number ≡ e .number → d ≡ e
+same-destination d e p q r =
+    ap (λ (x : ℕ). record { file = x; notice = d .notice; number = d .number }) p
+    ∙ ap (λ (x : ℕ). record { file = e .file; notice = x; number = d .number }) q
+    ∙ ap (λ (x : ℕ). record { file = e .file; notice = e .notice; number = x }) r
 
-  pub take-one-byte : OneByte start bytes (afterTake start bytes file n) file n
-  unfolding afterTake
-  take-one-byte = record { long = length-after-take start bytes file n; others = λ i h. getD-set-other bytes _ i _ 0 (λ p. h (omega (arith, p))) }
+abbrev kindOf : Numbers → ℕ
+kindOf a = a .kind
 
-module _ (start : ℕ) (bytes : List ℕ) where
-  pub stored-bytes : (mode root : ℕ) (q : DeviceRequest) (value : ℕ) (d : Destination) → requestOf (settings start mode root) bytes q value ≡ Stored d
-      → afterRequest (settings start mode root) bytes q value ≡ afterStore start bytes (d .file) (identityOf q value)
-  unfolding afterRequest
-  stored-bytes mode root q value d e = ap (storedBy start bytes q value) e
+abbrev firstOf : Numbers → ℕ
+firstOf a = a .first
 
-  pub taken-bytes : (file n : ℕ) → takeRefusal start (length bytes) file n ≡ 0 → afterTakeOf start bytes file n ≡ afterTake start bytes file n
-  taken-bytes file n z = sym (take-cleared start bytes file n 0 (sym z) _ refl refl)
+pub told-stored : (a : Answer) (d : Destination) → numbersOf a ≡ numbersOf (Stored d) → a ≡ Stored d
+told-stored (Stored e) d h = ap Stored (same-destination e d (ap firstOf h) (ap (λ (x : Numbers). x .second) h) (ap (λ (x : Numbers). x .third) h))
+told-stored (Translated a) d h = absurd (omega (arith, ap kindOf h))
+told-stored (Redirected a) d h = absurd (omega (arith, ap kindOf h))
+told-stored Discarded d h = absurd (omega (arith, ap kindOf h))
+told-stored (Fault f) d h = absurd (omega (arith, ap kindOf h))
+told-stored (Refused r) d h = absurd (omega (arith, ap kindOf h))
+told-stored (Taken w) d h = absurd (omega (arith, ap kindOf h))
 
-  pub other-bytes : (o : Op) → ((d : Destination) → answerOf start bytes o ≡ Stored d → ⊥) → ((w : ℕ) → answerOf start bytes o ≡ Taken w → ⊥)
-      → afterOf start bytes o ≡ bytes
-  unfolding afterRequest
-  other-bytes (request mode root q value) s t = go (requestOf (settings start mode root) bytes q value) s
-    where
-      go : (a : Answer) → ((d : Destination) → a ≡ Stored d → ⊥) → storedBy start bytes q value a ≡ bytes
-      go (Stored d) h = absurd (h d refl)
-      go (Translated a) h = refl
-      go (Redirected a) h = refl
-      go Discarded h = refl
-      go (Fault f) h = refl
-      go (Refused r) h = refl
-      go (Taken w) h = refl
-  other-bytes (take file n) s t =
-      sym (take-kept start bytes file n _ refl (λ z. t _ (take-taken start bytes file n z)))
+pub told-refused : (a : Answer) (r : ℕ) → numbersOf a ≡ numbersOf (Refused r) → a ≡ Refused r
+told-refused (Refused k) r h = ap Refused (ap firstOf h)
+told-refused (Stored e) r h = absurd (omega (arith, ap kindOf h))
+told-refused (Translated a) r h = absurd (omega (arith, ap kindOf h))
+told-refused (Redirected a) r h = absurd (omega (arith, ap kindOf h))
+told-refused Discarded r h = absurd (omega (arith, ap kindOf h))
+told-refused (Fault f) r h = absurd (omega (arith, ap kindOf h))
+told-refused (Taken w) r h = absurd (omega (arith, ap kindOf h))
 
--- 6: the notices
-module _ (start : ℕ) (bytes : List ℕ) where
-  abbrev call : Op → Call
-  call o = record { op = o; answer = answerOf start bytes o }
+-- a request is answered 2 exactly when it is stored
+pub stored-iff : (l : Lent) (mode root : ℕ) (q : DeviceRequest) (value : ℕ) (d : Destination)
+    → (numbersOf (answerOf l (request mode root q value)) ≡ numbersOf (Stored d)) ↔ Storing l mode root q value d
+stored-iff l mode root q value d =
+    (λ e. stored-storing l mode root q value d (told-stored _ d e), λ s. ap numbersOf (storing-stored l mode root q value d s))
 
-  -- a take is never answered 2
-  not-stored : (file n : ℕ) (d : Destination) → takeOf start bytes file n ≡ Stored d → ⊥
-  not-stored file n d e = go (takeRefusal start (length bytes) file n) refl
-    where
-      go : (k : ℕ) → takeRefusal start (length bytes) file n ≡ k → ⊥
-      go zero h = let t = take-taken start bytes file n h in no-way (cc)
-      go (suc k) h = let t = take-refused start bytes file n (suc k) (sym h) (λ z. omega arith) in no-way (cc)
+-- a take is refused exactly when a check refuses it
+pub refused-told : (l : Lent) (file n r : ℕ)
+    → (numbersOf (answerOf l (take file n)) ≡ numbersOf (Refused r)) ↔ ((takeRefusal (l .start) (length (l .bytes)) file n ≡ r) × (r ≡ 0 → ⊥))
+refused-told l file n r =
+    let i = refused-iff (l .start) (l .bytes) file n r in
+    (λ e. i .0 (told-refused _ r e), λ h. ap numbersOf (i .1 h))
 
-  -- how many stores an event is
-  abbrev stores : Event → ℕ
-  stores store = 1
-  stores successfulTake = 0
-  stores nothing = 0
+-- the notices
+pub given : (a : Numbers) (d : Destination) → a ≡ numbersOf (Stored d) → noticesOf a ≡ noticeGiven d
+given a d e = rw e
 
-  pub one-notice : (o : Op) (file n : ℕ) → eventOf file n (call o) ≡ store
-      → noticesOf (numbersOf (answerOf start bytes o)) ≡ noticeOf (numbersOf (answerOf start bytes o)) ∷ []
-  one-notice (request mode root q value) file n = go (requestOf (settings start mode root) bytes q value)
-    where
-      go : (a : Answer) → requestEvent file n (identityOf q value) a ≡ store → noticesOf (numbersOf a) ≡ noticeOf (numbersOf a) ∷ []
-      go (Stored d) e = refl
-      go (Translated a) e = absurd (no-way (cc))
-      go (Redirected a) e = absurd (no-way (cc))
-      go Discarded e = absurd (omega (arith, ap stores e))
-      go (Fault f) e = absurd (no-way (cc))
-      go (Refused r) e = absurd (no-way (cc))
-      go (Taken w) e = absurd (no-way (cc))
-  one-notice (take f i) file n = go (takeOf start bytes f i)
-    where
-      picked : (t : Bool) → pick t successfulTake nothing ≡ store → ⊥
-      picked true e = no-way (cc)
-      picked false e = no-way (cc)
+own : (x y : ℕ) → pick (eqb x x && eqb y y) store nothing ≡ store
+own x y = rw (eq-eqb x x refl, eq-eqb y y refl)
 
-      go : (a : Answer) → takeEvent file n f i a ≡ store → noticesOf (numbersOf a) ≡ noticeOf (numbersOf a) ∷ []
-      go (Stored d) e = refl
-      go (Translated a) e = absurd (no-way (cc))
-      go (Redirected a) e = absurd (no-way (cc))
-      go Discarded e = absurd (no-way (cc))
-      go (Fault g) e = absurd (no-way (cc))
-      go (Refused r) e = absurd (no-way (cc))
-      go (Taken w) e = absurd (picked (eqb f file && (eqb i n && eqb w 1)) e)
-
-  own : (x y : ℕ) → pick (eqb x x && eqb y y) store nothing ≡ store
-  own x y = rw (eq-eqb x x refl, eq-eqb y y refl)
-
-  pub no-notice : (o : Op) → ((file n : ℕ) → eventOf file n (call o) ≡ store → ⊥) → noticesOf (numbersOf (answerOf start bytes o)) ≡ []
-  no-notice (request mode root q value) k = go (requestOf (settings start mode root) bytes q value) k
-    where
-      go : (a : Answer) → ((file n : ℕ) → requestEvent file n (identityOf q value) a ≡ store → ⊥) → noticesOf (numbersOf a) ≡ []
-      go (Stored d) h = absurd (h (d .file) (identityOf q value) (own (d .file) (identityOf q value)))
-      go (Translated a) h = refl
-      go (Redirected a) h = refl
-      go Discarded h = refl
-      go (Fault f) h = refl
-      go (Refused r) h = refl
-      go (Taken w) h = refl
-  no-notice (take f i) h = go (takeOf start bytes f i) refl
-    where
-      go : (a : Answer) → takeOf start bytes f i ≡ a → noticesOf (numbersOf a) ≡ []
-      go (Stored d) e = absurd (not-stored f i d e)
-      go (Translated a) e = refl
-      go (Redirected a) e = refl
-      go Discarded e = refl
-      go (Fault g) e = refl
-      go (Refused r) e = refl
-      go (Taken w) e = refl
+pub no-notice : (l : Lent) (o : Op) → ((file n : ℕ) → opEvent file n o (numbersOf (answerOf l o)) ≡ store → ⊥) → noticesOf (numbersOf (answerOf l o)) ≡ []
+no-notice l (request mode root q value) k = go (requestOf (settings (l .start) mode root) (l .bytes) q value) k
+  where
+    go : (a : Answer) → ((file n : ℕ) → opEvent file n (request mode root q value) (numbersOf a) ≡ store → ⊥) → noticesOf (numbersOf a) ≡ []
+    go (Stored d) h = absurd (h (d .file) (identityOf q value) (own (d .file) (identityOf q value)))
+    go (Translated a) h = refl
+    go (Redirected a) h = refl
+    go Discarded h = refl
+    go (Fault f) h = refl
+    go (Refused r) h = refl
+    go (Taken w) h = refl
+no-notice l (take f i) h = go (takeRefusal (l .start) (length (l .bytes)) f i) refl
+  where
+    go : (k : ℕ) → takeRefusal (l .start) (length (l .bytes)) f i ≡ k → noticesOf (numbersOf (takeOf (l .start) (l .bytes) f i)) ≡ []
+    go zero e = ap (λ (a : Answer). noticesOf (numbersOf a)) (take-taken (l .start) (l .bytes) f i e)
+    go (suc k) e = ap (λ (a : Answer). noticesOf (numbersOf a)) (sym (take-refused (l .start) (l .bytes) f i (suc k) (sym e) (λ z. omega arith)))

@@ -3,7 +3,6 @@ pub mod Answering
 pub mod Keeping
 pub mod SumLaws
 pub mod Counting
-pub mod Lists
 pub mod Closing
 pub mod Files
 pub mod Corollaries
@@ -11,3 +10,4 @@ pub mod Whole
 pub mod Reported
 pub mod Reports
 pub mod Instance
+pub mod Wrong

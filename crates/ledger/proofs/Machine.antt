@@ -1,9 +1,11 @@
--- The ledger of one bit of any machine, from what each operation keeps. Assumes nothing.
+-- Lists of calls of any machine, and the ledger of one bit from what each call keeps. Assumes nothing.
 use Prim.Native.Nat.{ℕ, _+_}
 use mathlib.Core.Path.{_≡_, refl, sym, ap, subst, _∙_}
-use mathlib.Core.List.{List, [], _∷_}
+use mathlib.Core.List.{List, [], _∷_, _++_}
 use native.Mathlib.Omega.{arith}
-use Rattle.ledger.specs.Ledger.{Event, store, successfulTake, nothing, Account, opened, entered}
+use Rattle.iommu.specs.Operations.{Lent}
+use Rattle.ledger.specs.Machine.{Machine, Call, callOf, leftBy, history, AllGranted}
+use Rattle.ledger.specs.Ledger.{Event, store, successfulTake, nothing, eventOf, Account, opened, entered, enteredAll, pendingIn, accountOf}
 
 -- the bit after an event, as a machine is to have it
 abbrev pub step : ℕ → Event → ℕ
@@ -21,66 +23,87 @@ Told b nothing = Unit {0}
 pub record Balanced (b : ℕ) (a : Account) : Type 0 where
   pub sum : b + a .stores ≡ a .takes + a .merged + a .mark
 
-pub opened-balanced : (b : ℕ) → Balanced b (opened b)
+opened-balanced : (b : ℕ) → Balanced b (opened b)
 opened-balanced b = record { sum = omega arith }
 
 -- one entry: the mark goes as the bit, and what was pending, and each store, was taken, or merged, or is pending
-pub entered-mark : (a : Account) (e : Event) → entered a e .mark ≡ step (a .mark) e
+entered-mark : (a : Account) (e : Event) → entered a e .mark ≡ step (a .mark) e
 entered-mark a store = refl
 entered-mark a successfulTake = omega arith
 entered-mark a nothing = refl
 
-pub entered-balanced : (b : ℕ) (a : Account) (e : Event) → Told (a .mark) e → Balanced b a → Balanced b (entered a e)
+entered-balanced : (b : ℕ) (a : Account) (e : Event) → Told (a .mark) e → Balanced b a → Balanced b (entered a e)
 entered-balanced b a store t h = record { sum = omega (arith, h .sum) }
 entered-balanced b a successfulTake t h = record { sum = omega (arith, h .sum, t) }
 entered-balanced b a nothing t h = h
 
--- a machine: its state after a list of operations, its calls, and their entries into an account
-module _ {S O : Type 0} (after : S → O → S) where
-  abbrev pub final : S → List O → S
-  final s [] = s
-  final s (o ∷ os) = final (after s o) os
+module _ {O : Type 0} (m : Machine O) where
+  -- what a list in two parts does
+  pub left-append : (l : Lent) (before rest : List O) → leftBy m l (before ++ rest) ≡ leftBy m (leftBy m l before) rest
+  unfolding leftBy
+  left-append l [] rest = refl
+  left-append l (o ∷ os) rest = left-append (m .after l o) os rest
 
-  module _ {C : Type 0} (call : S → O → C) where
-    abbrev pub calls : S → List O → List C
-    calls s [] = []
-    calls s (o ∷ os) = call s o ∷ calls (after s o) os
+  pub history-append : (l : Lent) (before rest : List O) → history m l (before ++ rest) ≡ history m l before ++ history m (leftBy m l before) rest
+  unfolding history leftBy
+  history-append l [] rest = refl
+  history-append l (o ∷ os) rest = ap (λ (cs : List (Call O)). callOf m l o ∷ cs) (history-append (m .after l o) os rest)
 
-  -- a premise that each operation meets
-  module _ (Premise : S → O → Type 0) where
-    abbrev pub Premises : S → List O → Type 0
-    Premises s [] = Unit {0}
-    Premises s (o ∷ os) = Premise s o × Premises (after s o) os
+  -- the premise of a call of the list, and of the calls before it
+  pub granted-at : (l : Lent) (before rest : List O) (o : O) → AllGranted m l (before ++ (o ∷ rest)) → m .Granted (leftBy m l before) o
+  unfolding AllGranted leftBy
+  granted-at l [] rest o g = g .0
+  granted-at l (p ∷ ps) rest o g = granted-at (m .after l p) ps rest o (g .1)
 
-abbrev pub enter : {C : Type 0} → (C → Event) → Account → List C → Account
-enter see a [] = a
-enter see a (c ∷ cs) = enter see (entered a (see c)) cs
+  pub granted-before : (l : Lent) (before rest : List O) → AllGranted m l (before ++ rest) → AllGranted m l before
+  unfolding AllGranted
+  granted-before l [] rest g = tt
+  granted-before l (p ∷ ps) rest g = (g .0, granted-before (m .after l p) ps rest (g .1))
 
-module _ {S O C : Type 0} (after : S → O → S) (call : S → O → C) (Inv : S → Type 0) (Premise : S → O → Type 0)
-    (bit : S → ℕ) (see : C → Event) where
-  -- what is to be shown of each operation
-  pub record Keeps (s : S) (o : O) : Type 0 where
-    pub inv : Inv (after s o)
-    pub moves : bit (after s o) ≡ step (bit s) (see (call s o))
-    pub told : Told (bit s) (see (call s o))
+  -- an invariant of each call holds after a list
+  pub kept-by-all : (Inv : Lent → Type 0) → ((l : Lent) (o : O) → Inv l → m .Granted l o → Inv (m .after l o))
+      → (l : Lent) (ops : List O) → Inv l → AllGranted m l ops → Inv (leftBy m l ops)
+  unfolding AllGranted leftBy
+  kept-by-all Inv k l [] i g = i
+  kept-by-all Inv k l (o ∷ os) i g = kept-by-all Inv k (m .after l o) os (k l o i (g .0)) (g .1)
 
-  -- what follows of every list of them, from a state whose bit goes with an account
-  pub record Ledger (b : ℕ) (a : Account) (s : S) (os : List O) : Type 0 where
-    pub inv : Inv (final after s os)
-    pub waits : bit (final after s os) ≡ enter see a (calls after call s os) .mark
-    pub balances : Balanced b (enter see a (calls after call s os))
+  module _ (file n : ℕ) (Inv : Lent → Type 0) where
+    abbrev event : Call O → Event
+    event c = eventOf m file n c
 
-  module _ (keeps : (s : S) (o : O) → Inv s → Premise s o → Keeps s o) where
-    pub ledger-from : (b : ℕ) (a : Account) (s : S) (os : List O) → Inv s → Premises after Premise s os
-        → bit s ≡ a .mark → Balanced b a → Ledger b a s os
-    ledger-from b a s [] i p w h = record { inv = i; waits = w; balances = h }
-    ledger-from b a s (o ∷ os) i p w h =
-        let k = keeps s o i (p .0) in
-        let t : Told (a .mark) (see (call s o)) = subst (λ (x : ℕ). Told x (see (call s o))) w (k .told) in
-        let m : bit (after s o) ≡ entered a (see (call s o)) .mark =
-        k .moves ∙ ap (λ (x : ℕ). step x (see (call s o))) w ∙ sym (entered-mark a (see (call s o))) in
-        let r = ledger-from b (entered a (see (call s o))) (after s o) os (k .inv) (p .1) m (entered-balanced b a (see (call s o)) t h) in
-        record { inv = r .inv; waits = r .waits; balances = r .balances }
+    -- what is to be shown of each call
+    pub record Keeps (l : Lent) (o : O) : Type 0 where
+      pub inv : Inv (m .after l o)
+      pub moves : pendingIn (m .after l o) file n ≡ step (pendingIn l file n) (event (callOf m l o))
+      pub told : Told (pendingIn l file n) (event (callOf m l o))
 
-    pub ledger-of : (s : S) (os : List O) → Inv s → Premises after Premise s os → Ledger (bit s) (opened (bit s)) s os
-    ledger-of s os i p = ledger-from (bit s) (opened (bit s)) s os i p refl (opened-balanced (bit s))
+    -- what follows of every list of them, from where the bit goes with an account
+    pub record Kept (b : ℕ) (a : Account) (l : Lent) (ops : List O) : Type 0 where
+      pub waits : pendingIn (leftBy m l ops) file n ≡ enteredAll event a (history m l ops) .mark
+      pub balances : Balanced b (enteredAll event a (history m l ops))
+
+    module _ (keeps : (l : Lent) (o : O) → Inv l → m .Granted l o → Keeps l o) where
+      kept-from : (b : ℕ) (a : Account) (l : Lent) (ops : List O) → Inv l → AllGranted m l ops → pendingIn l file n ≡ a .mark → Balanced b a → Kept b a l ops
+      unfolding leftBy history enteredAll AllGranted
+      kept-from b a l [] i g w h = record { waits = w; balances = h }
+      kept-from b a l (o ∷ os) i g w h =
+          let k = keeps l o i (g .0) in
+          let e = event (callOf m l o) in
+          let t : Told (a .mark) e = subst (λ (x : ℕ). Told x e) w (k .told) in
+          let v : pendingIn (m .after l o) file n ≡ entered a e .mark = k .moves ∙ ap (λ (x : ℕ). step x e) w ∙ sym (entered-mark a e) in
+          let r = kept-from b (entered a e) (m .after l o) os (k .inv) (g .1) v (entered-balanced b a e t h) in
+          record { waits = r .waits; balances = r .balances }
+
+      -- the pending bit after the list is the mark, and the account balances
+      module _ (l : Lent) (ops : List O) (i : Inv l) (g : AllGranted m l ops) where
+        kept : Kept (pendingIn l file n) (opened (pendingIn l file n)) l ops
+        kept = kept-from (pendingIn l file n) (opened (pendingIn l file n)) l ops i g refl (opened-balanced (pendingIn l file n))
+
+        pub mark-kept : pendingIn (leftBy m l ops) file n ≡ accountOf m l ops file n .mark
+        unfolding accountOf
+        mark-kept = kept .waits
+
+        pub balance-kept : pendingIn l file n + accountOf m l ops file n .stores
+            ≡ accountOf m l ops file n .takes + accountOf m l ops file n .merged + pendingIn (leftBy m l ops) file n
+        unfolding accountOf
+        balance-kept = omega (arith, kept .balances .sum, kept .waits)

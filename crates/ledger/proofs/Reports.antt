@@ -1,5 +1,5 @@
 -- Reports of a file before and after a list of calls differ by the ledger's counts. Assumes nothing.
-use Prim.Native.Nat.{ℕ, zero, suc, _+_, _-_, _*_, _%_, _^_, _<_}
+use Prim.Native.Nat.{ℕ, zero, suc, _+_, _-_, _%_, _^_, _<_}
 use mathlib.Core.Path.{_≡_, refl, sym, ap, _∙_}
 use mathlib.Core.Bool.{Bool, true, false, not}
 use mathlib.Core.List.{List, [], _∷_}
@@ -20,11 +20,15 @@ use Rattle.iommu_refusals.specs.Refusals.{badWindow, takeRefusal, reportRefusal
 use Rattle.iommu.specs.Request.{identityOf, storedBy, requestOf, afterRequest}
 use Rattle.iommu.specs.Files.{afterTakeOf, reportOf}
 use Rattle.iommu.proofs.Files.{report-made}
-use Rattle.ledger.specs.Calls.{Op, request, take, settings, afterOf, bytesAfter, history}
-use Rattle.ledger.specs.Sums.{ofFile, total, storeTo, takeFrom, howMany}
+use Rattle.iommu.specs.Operations.{Lent, Op, request, take, settings, bytesOf, afterOf}
+use Rattle.ledger.specs.Machine.{routines, leftBy, history}
+use Rattle.ledger.specs.Ledger.{pendingIn}
+use Rattle.ledger.specs.Sums.{ofFile, total, among, opStores, opTakes, addedUp}
 use Rattle.ledger.specs.Closes.{left, accountAfter, pendingAfter}
-use Rattle.ledger.proofs.Lists.{length-after}
+use Rattle.ledger.proofs.Keeping.{list-same}
+use Rattle.ledger.proofs.Closing.{routines-faithful, routines-granted, closes}
 use Rattle.ledger.proofs.Corollaries.{change}
+use Rattle.ledger.proofs.Whole.{counted-all}
 use Rattle.ledger.proofs.Reported.{pending-counted}
 
 -- every element is a byte, as in a lent window
@@ -54,28 +58,28 @@ module _ (start : ℕ) where
   unfolding afterTake
   take-bytes bytes file n h = set-bytes bytes _ _ (cleared-lt (n % 8) _ (h (placeOf file n - start))) h
 
-  call-bytes : (bytes : List ℕ) (o : Op) → Bytes bytes → Bytes (afterOf start bytes o)
-  unfolding afterRequest afterTakeOf
-  call-bytes bytes (request mode root q value) h = go (requestOf (settings start mode root) bytes q value)
-    where
-      go : (a : Answer) → Bytes (storedBy start bytes q value a)
-      go (Stored d) = store-bytes bytes (d .file) (identityOf q value) h
-      go (Translated a) = h
-      go (Redirected a) = h
-      go Discarded = h
-      go (Fault f) = h
-      go (Refused r) = h
-      go (Taken w) = h
-  call-bytes bytes (take f i) h = go (takeRefusal start (length bytes) f i)
-    where
-      go : (r : ℕ) → Bytes (unlessRefused r (λ k. bytes) (afterTake start bytes f i))
-      go zero = take-bytes bytes f i h
-      go (suc r) = h
+op-bytes : (l : Lent) (o : Op) → Bytes (l .bytes) → Bytes (bytesOf l o)
+unfolding afterRequest afterTakeOf
+op-bytes l (request mode root q value) h = go (requestOf (settings (l .start) mode root) (l .bytes) q value)
+  where
+    go : (a : Answer) → Bytes (storedBy (l .start) (l .bytes) q value a)
+    go (Stored d) = store-bytes (l .start) (l .bytes) (d .file) (identityOf q value) h
+    go (Translated a) = h
+    go (Redirected a) = h
+    go Discarded = h
+    go (Fault f) = h
+    go (Refused r) = h
+    go (Taken w) = h
+op-bytes l (take f i) h = go (takeRefusal (l .start) (length (l .bytes)) f i)
+  where
+    go : (r : ℕ) → Bytes (unlessRefused r (λ k. l .bytes) (afterTake (l .start) (l .bytes) f i))
+    go zero = take-bytes (l .start) (l .bytes) f i h
+    go (suc r) = h
 
-  pub left-bytes : (bytes : List ℕ) (ops : List Op) → Bytes bytes → Bytes (bytesAfter start bytes ops)
-  unfolding bytesAfter
-  left-bytes bytes [] h = h
-  left-bytes bytes (o ∷ os) h = left-bytes (afterOf start bytes o) os (call-bytes bytes o h)
+pub left-bytes : (l : Lent) (ops : List Op) → Bytes (l .bytes) → Bytes (leftBy routines l ops .bytes)
+unfolding leftBy
+left-bytes l [] h = h
+left-bytes l (o ∷ os) h = left-bytes (afterOf l o) os (op-bytes l o h)
 
 report-passed : (start len file : ℕ) → reportRefusal start len file ≡ 0 → isFile start len file ≡ true
 unfolding reportRefusal
@@ -99,19 +103,21 @@ unfolding total
 total-one file g = omega arith
 
 -- a file's count before + its stores ≡ its successful takes + its merged stores + its count after
-pub reports-close : (start : ℕ) (bytes : List ℕ) (ops : List Op) (file : ℕ) → Bytes bytes → reportRefusal start (length bytes) file ≡ 0
-    → reportOf start bytes file .count + howMany (storeTo (file ∷ [])) (history start bytes ops)
-    ≡ howMany (takeFrom (file ∷ [])) (history start bytes ops) + ofFile (λ n. accountAfter start bytes ops file n .merged)
-    + reportOf start (left start bytes ops) file .count
-reports-close start bytes ops file h z =
-    let after = bytesAfter start bytes ops in
-    let r : reportRefusal start (length after) file ≡ 0 = ap (λ (k : ℕ). reportRefusal start k file) (length-after start bytes ops) ∙ z in
+pub reports-close : (l : Lent) (ops : List Op) (file : ℕ) → Bytes (l .bytes) → reportRefusal (l .start) (length (l .bytes)) file ≡ 0
+    → reportOf (l .start) (l .bytes) file .count + addedUp routines (opStores (among (file ∷ []))) (history routines l ops)
+    ≡ addedUp routines (opTakes (among (file ∷ []))) (history routines l ops) + ofFile (λ n. accountAfter routines l ops file n .merged)
+    + reportOf (left routines l ops .start) (left routines l ops .bytes) file .count
+reports-close l ops file h z =
+    let after = leftBy routines l ops in
+    let s = list-same routines routines-faithful l ops (routines-granted l ops) in
+    let r : reportRefusal (after .start) (length (after .bytes)) file ≡ 0 =
+    ap (λ (k : ℕ). reportRefusal k (length (after .bytes)) file) (s .place) ∙ ap (λ (k : ℕ). reportRefusal (l .start) k file) (s .long) ∙ z in
     omega (
       arith,
-      reported start bytes file h z,
-      reported start after file (left-bytes start bytes ops h) r,
-      change start bytes ops (file ∷ []) (refl, tt) (report-passed start (length bytes) file z, tt),
-      total-one file (pendingOf start bytes),
-      total-one file (pendingAfter start bytes ops),
-      total-one file (λ f n. accountAfter start bytes ops f n .merged),
+      reported (l .start) (l .bytes) file h z,
+      reported (after .start) (after .bytes) file (left-bytes l ops h) r,
+      change routines l ops (closes l ops) (file ∷ []) (refl, tt) (counted-all l ops (file ∷ []) (report-passed (l .start) (length (l .bytes)) file z, tt)),
+      total-one file (pendingIn l),
+      total-one file (pendingAfter routines l ops),
+      total-one file (λ f n. accountAfter routines l ops f n .merged),
     )

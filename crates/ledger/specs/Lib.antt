@@ -1,4 +1,4 @@
-pub mod Calls
+pub mod Machine
 pub mod Ledger
 pub mod Sums
 pub mod Closes

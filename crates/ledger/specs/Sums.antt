@@ -1,4 +1,4 @@
--- Sums over the 2,048 identities of each file of a list, and how many calls of a history were stores to those files or successful takes from them.
+-- Sums over the 2,048 identities of each file of a list, and what the calls of a history add up to: stores to those files, successful takes from them.
 use Prim.Native.Nat.{ℕ, zero, suc, _+_}
 use mathlib.Core.Path.{_≡_}
 use mathlib.Core.Bool.{Bool, true, false, _&&_, _||_}
@@ -7,8 +7,8 @@ use lib.Dec.{eqb}
 use Rattle.memory.specs.Choice.{pick}
 use Rattle.interrupt_file.specs.File.{isFile}
 use Rattle.iommu.specs.declared.Numbers.{Numbers}
-use Rattle.iommu.specs.Answers.{numbersOf}
-use Rattle.ledger.specs.Calls.{Op, request, take, Call}
+use Rattle.iommu.specs.Operations.{Op, request, take}
+use Rattle.ledger.specs.Machine.{Asked, asks, asksNothing, Machine, Call}
 
 -- g 0 + .. + g (k - 1)
 unfoldable pub sumTo : ℕ → (ℕ → ℕ) → ℕ
@@ -36,25 +36,22 @@ abbrev pub Files : ℕ → ℕ → List ℕ → Type 0
 Files start len [] = Unit {0}
 Files start len (f ∷ fs) = (isFile start len f ≡ true) × Files start len fs
 
--- a call with these numbers is a store: "A request answered 2 is a store: its file is the answer's first number"
-abbrev pub isStore : Op → Numbers → Bool
-isStore (request mode root q d) a = eqb (a .kind) 2
-isStore (take f i) a = false
+-- how many stores a call is to some files: "A request answered 2 is a store: its file is the answer's first number"
+abbrev pub opStores : (ℕ → Bool) → Op → Numbers → ℕ
+opStores these (request mode root q d) a = pick (eqb (a .kind) 2 && these (a .first)) 1 0
+opStores these (take f i) a = 0
 
--- or a successful take: "A take answered 6 with 1 is a successful take of the file and identity that it gives"
-abbrev pub isTake : Op → Numbers → Bool
-isTake (request mode root q d) a = false
-isTake (take f i) a = eqb (a .kind) 6 && eqb (a .first) 1
+-- how many successful takes from them: "A take answered 6 with 1 is a successful take of the file and identity that it gives"
+abbrev pub opTakes : (ℕ → Bool) → Op → Numbers → ℕ
+opTakes these (request mode root q d) a = 0
+opTakes these (take f i) a = pick (eqb (a .kind) 6 && (eqb (a .first) 1 && these f)) 1 0
 
--- to or from one of the files
-abbrev pub storeTo : List ℕ → Op → Numbers → Bool
-storeTo files o a = isStore o a && among files (a .first)
+-- of a call that asks an operation; another is none
+abbrev pub askedWeight : (Op → Numbers → ℕ) → Asked → Numbers → ℕ
+askedWeight w (asks o) a = w o a
+askedWeight w asksNothing a = 0
 
-abbrev pub takeFrom : List ℕ → Op → Numbers → Bool
-takeFrom files (request mode root q d) a = false
-takeFrom files (take f i) a = isTake (take f i) a && among files f
-
--- how many calls of a history are
-unfoldable pub howMany : (Op → Numbers → Bool) → List Call → ℕ
-howMany test [] = 0
-howMany test (c ∷ cs) = pick (test (c .op) (numbersOf (c .answer))) 1 0 + howMany test cs
+-- what the calls of a history add up to
+unfoldable pub addedUp : {O : Type 0} → Machine O → (Op → Numbers → ℕ) → List (Call O) → ℕ
+addedUp m w [] = 0
+addedUp m w (c ∷ cs) = askedWeight w (m .asked (c .op)) (c .answer) + addedUp m w cs

@@ -1,13 +1,18 @@
 -- What the corollaries speak of: lists without takes, and all files of a window.
 use Prim.Native.Nat.{ℕ, zero, suc, _+_, _-_, _*_, _/_}
 use mathlib.Core.List.{List, [], _∷_}
-use Rattle.ledger.specs.Calls.{Op, request, take}
+use Rattle.iommu.specs.Operations.{Op, request, take}
+use Rattle.ledger.specs.Machine.{Asked, asks, asksNothing, Machine}
 
--- no call of the list is a take
-abbrev pub NoTakes : List Op → Type 0
-NoTakes [] = Unit {0}
-NoTakes (request mode root q d ∷ ops) = NoTakes ops
-NoTakes (take file n ∷ ops) = ⊥
+-- no call of the list asks a take
+abbrev pub NoTake : Asked → Type 0
+NoTake (asks (request mode root q d)) = Unit {0}
+NoTake (asks (take file n)) = ⊥
+NoTake asksNothing = Unit {0}
+
+abbrev pub NoTakes : {O : Type 0} → Machine O → List O → Type 0
+NoTakes m [] = Unit {0}
+NoTakes m (o ∷ ops) = NoTake (m .asked o) × NoTakes m ops
 
 -- k files from address a on
 unfoldable pub filesFrom : ℕ → ℕ → List ℕ

@@ -17,7 +17,7 @@ use Rattle.causes.specs.declared.Access.{Access}
 use Rattle.message.specs.declared.Destination.{Destination}
 use Rattle.message.specs.declared.Message.{Message}
 use Rattle.message.specs.declared.Message.the-variants.{Redirect, Record}
-use Rattle.message.specs.Recognition.{extract}
+use Rattle.message_recognition.specs.Recognition.{extract}
 use Rattle.message.specs.Table.{tableFault, alignment, permitted, translateReserved, recordReserved, destinationOf, onTranslate, onNotice, onMessageEntry, messageOf}
 
 -- k ones ask for 16 x 2^k bytes, which a doubleword holds

@@ -1,3 +1,1 @@
-pub mod Recognition
-pub mod Code
 pub mod Table

@@ -14,7 +14,7 @@ use Rattle.causes.specs.declared.Stage.the-variants.{MessageTable}
 use Rattle.message.specs.declared.Destination.{Destination}
 use Rattle.message.specs.declared.Message.{Message}
 use Rattle.message.specs.declared.Message.the-variants.{Redirect, Record, Fault}
-use Rattle.message.specs.Recognition.{fileNumber}
+use Rattle.message_recognition.specs.Recognition.{fileNumber}
 
 -- "message table for 261 to 263 and cause 1 at a message entry"
 abbrev pub tableFault : ℕ → Message

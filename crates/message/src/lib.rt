@@ -1,4 +1,4 @@
-// Messages to virtual interrupt files: recognition, and the entries of the message table.
+// Messages to virtual interrupt files: the entries of the message table.
 use causes::Access;
 use causes::FaultInfo;
 use causes::Stage;
@@ -8,8 +8,6 @@ ghost use Prim.Native.Nat.{_*_, _%_, _^_, _<_};
 ghost use lib.Dec.{eqb};
 ghost use Rattle.memory.specs.Window.{memory};
 ghost use Rattle.memory.specs.Walk.{run};
-ghost use Rattle.message.specs.Recognition.{recognised as recognisedOf, extract as extractOf};
-ghost use Rattle.message.specs.Code.{Ready, roundOf, Packs};
 ghost use Rattle.message.specs.Table.{alignment, tableFault, permitted as permittedOf, translateReserved, recordReserved, destinationOf, onTranslate, onNotice, onMessageEntry, messageOf};
 
 // Where an entry in MRIF mode has a message recorded, and the notice that it asks for: a number to be written at an address.
@@ -24,78 +22,6 @@ pub enum Message {
     Redirect(u64),
     Record(Destination),
     Fault(FaultInfo),
-}
-
-// Packing under way: the number so far, how many of its places are taken, and the ones of the mask that are left.
-struct Packing {
-    number: u64,
-    used: u32,
-    rest: u64,
-}
-
-// A packed number and how many rounds made it; the count is for the promise alone, and the compiler drops it.
-struct Counted {
-    number: u64,
-    rounds: u32,
-}
-
-// Whether a guest address is one of a virtual interrupt file: its page number has the pattern in each bit that the mask leaves out.
-pub fn recognised(mask: u64, pattern: u64, a: u64) -> bool
-    ensures { λ r. ⌜ r ≡ recognisedOf mask pattern a ⌝ }
-{
-    let page = a / 4096;
-    page - (page & mask) == pattern - (pattern & mask)
-}
-
-// One round of packing, without a loop: the lowest run of ones in the rest of the mask. A one added at its start is carried through it.
-fn round(x: u64, p: Packing) -> Packing
-    requires { ⌜ Ready x p ⌝ }
-    ensures { λ r. ⌜ r ≡ roundOf x p ⌝ }
-{
-    let start = u64::trailing_zeros(p.rest);
-    let over = p.rest + (1u64 << start);
-    let end = u64::trailing_zeros(over);
-    let rest = p.rest & over;
-    let run = p.rest - rest;
-    Packing {
-        number: p.number + ((x & run) >> (start - p.used)),
-        used: p.used + (end - start),
-        rest: rest,
-    }
-}
-
-// The bits of x that the mask picks, packed in their order, in at most as many rounds as the mask has ones.
-fn pack(x: u64, mask: u64) -> Counted
-    ensures { λ r. ⌜ Packs x mask r ⌝ }
-{
-    let most = u64::count_ones(mask);
-    let mut left = most;
-    let mut p = Packing {
-        number: 0,
-        used: 0,
-        rest: memory::field(mask, 51, 0),
-    };
-    while 0 < left {
-        if p.rest == 0 {
-            return Counted {
-                number: p.number,
-                rounds: most - left,
-            };
-        }
-        p = round(x, p);
-        left -= 1;
-    }
-    Counted {
-        number: p.number,
-        rounds: most,
-    }
-}
-
-// The bits of x that the mask picks, packed in their order.
-pub fn extract(x: u64, mask: u64) -> u64
-    ensures { λ r. ⌜ (r ≡ extractOf x mask) × (r < 2 ^ 52) ⌝ }
-{
-    pack(x, mask).number
 }
 
 // Whether a table at a page is aligned for as many files as the mask can number.
@@ -214,7 +140,7 @@ pub fn message_of(page: u64, mask: u64, x: Access, start: u64, window: &[u8], a:
     if !aligned(page, mask) {
         return table_fault(263);
     }
-    let at = page * 4096 + 16 * extract(a / 4096, mask);
+    let at = page * 4096 + 16 * message_recognition::extract(a / 4096, mask);
     let Load::Value(e) = memory::load64(start, window, at) else {
         return table_fault(261);
     };

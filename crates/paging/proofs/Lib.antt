@@ -1,3 +1,4 @@
 pub mod LevelsLaws
 pub mod CodeLaws
 pub mod StagesLaws
+pub mod Offsets

@@ -20,7 +20,7 @@ use Rattle.directory_context.specs.Device.{deviceMisconfigured}
 use Rattle.directory_device.specs.Device.{deviceContextAt, deviceContextOf}
 use Rattle.directory_context.specs.Process.{processMisconfigured}
 use Rattle.directory_process.specs.Process.{processContextAt, processContextOf, processTable, firstTableOf}
-use Rattle.message.specs.Recognition.{recognised, packed, extract}
+use Rattle.message_recognition.specs.Recognition.{recognised, packed, extract}
 use Rattle.iommu_refusals.specs.Refusals.{badWindow, requestRefusal}
 use Rattle.iommu_translation.specs.Translate.{untranslated, isMessage, guestOf, stagesOf, directoryOf, translateOf}
 use Rattle.iommu.specs.Request.{finish, requestOf}

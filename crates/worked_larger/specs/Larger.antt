@@ -17,7 +17,7 @@ use Rattle.paging_entry.specs.declared.Translation.the-variants.{To, Fault}
 use Rattle.directory_context.specs.Device.{deviceMisconfigured}
 use Rattle.directory_context.specs.Process.{processMisconfigured}
 use Rattle.directory_process.specs.declared.ProcessId.the-variants.{Absent}
-use Rattle.message.specs.Recognition.{recognised, fileNumber}
+use Rattle.message_recognition.specs.Recognition.{recognised, fileNumber}
 use Rattle.iommu.specs.Request.{requestOf}
 use Rattle.worked_rows.specs.Memory.{words}
 use Rattle.worked_rows.specs.Rows.{Row, row, one, shown}

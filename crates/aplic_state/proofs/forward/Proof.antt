@@ -1,6 +1,7 @@
 use mathlib.Core.Path.{refl}
 use Rattle.aplic_calls.proofs.Tables.{kept-sent, kept-table}
-use Rattle.aplic_state.proofs.States.{forward-sends, forward-goes, forward-none, forward-off, forward-changes, beyond-put}
+use Rattle.aplic_words.proofs.States.{beyond-put}
+use Rattle.aplic_state.proofs.Calls.{forward-sends, forward-goes, forward-none, forward-off, forward-changes}
 use borrow.Author.Needs.{needs}
 use Rattle.aplic_state.proofs.forward.Statement.{statement}
 use Rattle.aplic_state.proofs.forward.Tie as tie

@@ -1,7 +1,7 @@
 use mathlib.Core.Path.{refl}
 use Rattle.register.proofs.Known.{knowing}
 use Rattle.aplic_calls.proofs.Claims.{idc-reads, lefts}
-use Rattle.aplic_state.proofs.States.{claimed-else}
+use Rattle.aplic_state.proofs.Calls.{claimed-else}
 use borrow.Author.Needs.{needs}
 use Rattle.aplic_state.proofs.read_idc.Statement.{statement}
 use Rattle.aplic_state.proofs.read_idc.Tie as tie

@@ -1,4 +1,4 @@
-use Rattle.aplic_state.proofs.States.{reads}
+use Rattle.aplic_state.proofs.Calls.{reads}
 use Rattle.register.proofs.Known.{knowing}
 use borrow.Author.Needs.{needs}
 use Rattle.aplic_state.proofs.value.Statement.{statement}

@@ -1,4 +1,5 @@
-use Rattle.aplic_state.proofs.States.{wire-goes, beyond}
+use Rattle.aplic_words.proofs.States.{beyond}
+use Rattle.aplic_state.proofs.Calls.{wire-goes}
 use borrow.Author.Needs.{needs}
 use Rattle.aplic_state.proofs.wire.Statement.{statement}
 use Rattle.aplic_state.proofs.wire.Tie as tie

@@ -42,7 +42,6 @@ use Rattle.hart.specs.Hart.{hartRefusal}
 use Rattle.hart.specs.declared.Hart.{Hart}
 use Rattle.aplic.specs.Domain.{tableOf}
 use Rattle.aplic_calls.specs.Direct.{claimTable, claimHart, topi}
-use lib.ListN.{length}
 use Rattle.aplic.specs.declared.Domain.{Domain}
 use Rattle.aplic.specs.declared.Claimed.{Claimed}
 use Rattle.hart.proofs.Hart as T
@@ -68,7 +67,7 @@ stayed = (stay-none (λ _. D.the-row) yes, (stay-none (λ _. u64) yes, (stay-ref
 
 -- what `claim_with` promises of its result
 abbrev Says : Domain → ℕ → Hart → Claimed → Type 0
-Says d k h r = (tableOf (r .domain) ≡ claimTable k (h .threshold) (tableOf d)) × (r .hart ≡ claimHart k h (tableOf d)) × (r .value ≡ topi k (h .threshold) (tableOf d)) × (r .refusal ≡ hartRefusal k) × (length (r .domain .harts) ≡ 16)
+Says d k h r = (tableOf (r .domain) ≡ claimTable k (h .threshold) (tableOf d)) × (r .hart ≡ claimHart k h (tableOf d)) × (r .value ≡ topi k (h .threshold) (tableOf d)) × (r .refusal ≡ hartRefusal k)
 
 module _ {M : Type 1} (𝓤 : URA M) (H : Heap 𝓤) (A : Atoms 𝓤) (at-mem : Memory → SProp 𝓤) (run : Routine → Fun 𝓤) where
   -- the contract that the proof cites

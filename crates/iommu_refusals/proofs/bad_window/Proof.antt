@@ -5,4 +5,4 @@ use Rattle.iommu_refusals.proofs.bad_window.Statement.{statement}
 use Rattle.iommu_refusals.proofs.bad_window.Tie as tie
 
 pub bad-window-spec : {M : Type 1} → statement M
-bad-window-spec = tie.close (tie.spec (λ c. search (window-ways, needs)) (λ c. search (window-ways, needs)) (λ c. search (window-ways, needs)) (λ c. search (window-ways, needs)))
+bad-window-spec = tie.close (tie.spec (λ c. search (window-ways, needs)) (λ c. search (window-ways, needs)) (λ c. search (window-ways, needs)))

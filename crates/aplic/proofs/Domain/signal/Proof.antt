@@ -1,8 +1,13 @@
-use Rattle.aplic.proofs.Domains.{signals}
 use Rattle.aplic_calls.proofs.Claims.{below-of}
+use Rattle.aplic.specs.Domain.{tableOf}
+use Rattle.aplic.proofs.Domains.{long, refused}
 use borrow.Author.Needs.{needs}
 use Rattle.aplic.proofs.Domain.signal.Statement.{statement}
 use Rattle.aplic.proofs.Domain.signal.Tie as tie
 
+returns : tie.Need-returns
+unfolding tableOf
+returns c = search needs
+
 pub signal-spec : {M : Type 1} → statement M
-signal-spec = tie.close (tie.spec (λ c κs. tt) (λ c κs. search (below-of, needs)) (λ c. search needs) (λ c. search (signals, needs)))
+signal-spec = tie.close (tie.spec (λ c κs. tt) (λ c. search needs) (λ c κs. search (long, below-of, needs)) returns (λ c. search (refused, needs)))

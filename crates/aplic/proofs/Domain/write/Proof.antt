@@ -1,7 +1,12 @@
-use Rattle.aplic_calls.proofs.Tables.{spans}
+use Rattle.aplic.specs.Domain.{tableOf}
+use Rattle.aplic.proofs.Domains.{long}
 use borrow.Author.Needs.{needs}
 use Rattle.aplic.proofs.Domain.write.Statement.{statement}
 use Rattle.aplic.proofs.Domain.write.Tie as tie
 
+returns : tie.Need-returns
+unfolding tableOf
+returns c = search needs
+
 pub write-spec : {M : Type 1} → statement M
-write-spec = tie.close (tie.spec (λ c κs. tt) (λ c. search (spans, needs)) (λ c κs. tt) (λ c. search (spans, needs)))
+write-spec = tie.close (tie.spec (λ c. search needs) (λ c κs. search long) returns)

@@ -1,0 +1,107 @@
+// The rows about a memory: its making, its bytes, and the calls of the IOMMU over the part that is lent. Each buffer is as long as its call asks, so the call's status is 0.
+use crate::state;
+use crate::state::State;
+ghost use Prim.Native.Nat.{_≤_};
+
+// START, LENGTH, MODE and ROOT.
+pub fn lend(s: State, n: [u64; 7]) -> State {
+    if 131072 < n[1] {
+        return state::broken(s);
+    }
+    let mut t = s;
+    t.start = n[0];
+    t.length = n[1] as isize;
+    t.mode = n[2];
+    t.root = n[3];
+    t
+}
+
+pub fn renew(s: State, n: [u64; 7], memory: &mut [u8; 131072]) -> State {
+    *memory = [0u8; 131072];
+    let mut t = lend(s, n);
+    t.memory = true;
+    t
+}
+
+// A doubleword, lowest byte first.
+fn put(memory: &mut [u8; 131072], at: usize, v: u64)
+    requires { ⌜ at ≤ 131064 ⌝ }
+{
+    memory[at] = (v % 256) as u8;
+    memory[at + 1] = (v / 256 % 256) as u8;
+    memory[at + 2] = (v / 65536 % 256) as u8;
+    memory[at + 3] = (v / 16777216 % 256) as u8;
+    memory[at + 4] = (v / 4294967296 % 256) as u8;
+    memory[at + 5] = (v / 1099511627776 % 256) as u8;
+    memory[at + 6] = (v / 281474976710656 % 256) as u8;
+    memory[at + 7] = (v / 72057594037927936) as u8;
+}
+
+// OFFSET and VALUE.
+pub fn write(s: State, n: [u64; 7], memory: &mut [u8; 131072]) -> State {
+    if 131064 < n[0] {
+        return state::broken(s);
+    }
+    put(memory, n[0] as usize, n[1]);
+    s
+}
+
+// DEVICE, PROCESS, FLAGS, ACCESS, ADDRESS, COUNT and DATA. The fifth value is a fault's stage.
+pub fn request(s: State, n: [u64; 7], memory: &mut [u8]) -> State {
+    if 3 < n[2] {
+        return state::broken(s);
+    }
+    if 2 < n[3] {
+        return state::broken(s);
+    }
+    if 0xFFFFFFFF < n[6] {
+        return state::broken(s);
+    }
+    let end = io::count(s.length, memory);
+    let data = n[6] as u32;
+    let mut out = [0u64; 5];
+    capi_iommu::yasmurekh_request(
+        s.start,
+        &mut memory[..end],
+        s.mode,
+        s.root,
+        n[0],
+        n[1],
+        n[2],
+        n[3],
+        n[4],
+        n[5],
+        data,
+        &mut out,
+    );
+    state::five(s, out[0], out[1], out[2], out[3], out[4])
+}
+
+// FILE and IDENTITY.
+pub fn take(s: State, n: [u64; 7], memory: &mut [u8]) -> State {
+    let end = io::count(s.length, memory);
+    let mut out = [0u64; 5];
+    capi_iommu::yasmurekh_take(s.start, &mut memory[..end], n[0], n[1], &mut out);
+    state::four(s, out[0], out[1], out[2], out[3])
+}
+
+// Every second word of a report from a place on, 32 of them, added up modulo 2^64.
+fn sum(words: [u64; 66], from: usize) -> u64
+    requires { ⌜ from ≤ 3 ⌝ }
+{
+    let mut total: u64 = 0;
+    let mut k: usize = 0;
+    while k < 32 {
+        total = std::num::wrapping_add_u64(total, words[from + 2 * k]);
+        k += 1;
+    }
+    total
+}
+
+// FILE. The pairs stand from the third word on, pending before enable.
+pub fn report(s: State, n: [u64; 7], memory: &[u8]) -> State {
+    let end = io::count(s.length, memory);
+    let mut out = [0u64; 66];
+    capi_report::yasmurekh_report(s.start, &memory[..end], n[0], &mut out);
+    state::four(s, out[0], out[1], sum(out, 2), sum(out, 3))
+}

@@ -1,0 +1,93 @@
+-- Wrong machines: the claim doesn't hold of them. Assumes nothing.
+use Prim.Native.Nat.{ℕ, _+_, _-_, _/_, _%_, _^_}
+use mathlib.Core.Path.{_≡_, refl, ap}
+use mathlib.Core.Bool.{false}
+use mathlib.Core.List.{List, [], _∷_, _++_}
+use native.Mathlib.Omega.{arith}
+use lib.Count.{onesIn, ones}
+use lib.ListN.{length, replicate}
+use Rattle.memory.specs.Window.{memory}
+use Rattle.causes.specs.declared.Access.the-variants.{Write}
+use Rattle.directory_process.specs.declared.ProcessId.the-variants.{Absent}
+use Rattle.paging_scheme.specs.Scheme.{legalOf, indexOf}
+use Rattle.paging_entry.specs.Entry.{entryOf, allows, mappedBy}
+use Rattle.paging_entry.specs.Entry.{onLoad}
+use Rattle.paging.specs.Levels.{levelStep, levels, walkOf}
+use Rattle.paging.specs.Stages.{secondStageOf, firstStageOf}
+use Rattle.directory_entry.specs.Entries.{pointerOf, tooWide}
+use Rattle.directory_walk.specs.Pointers.{leafPlace}
+use Rattle.directory_context.specs.Device.{deviceMisconfigured}
+use Rattle.directory_device.specs.Device.{deviceContextAt, deviceContextOf}
+use Rattle.directory_context.specs.Process.{processMisconfigured}
+use Rattle.directory_process.specs.Process.{processContextAt, processContextOf, processTable, firstTableOf}
+use Rattle.message_recognition.specs.Recognition.{recognised, packed, extract}
+use Rattle.message.specs.Table.{translateReserved, recordReserved, onNotice, onTranslate, onMessageEntry, messageOf}
+use Rattle.interrupt_file.specs.Bit.{bitAt, withBit, withoutBit}
+use Rattle.interrupt_file.specs.File.{isFile, pendingOf, afterStore, afterTake}
+use Rattle.iommu.specs.declared.Numbers.{Numbers}
+use Rattle.iommu.specs.Answers.{numbersOf, numbers}
+use Rattle.iommu_refusals.specs.Refusals.{badWindow, requestRefusal, takeRefusal}
+use Rattle.iommu_translation.specs.Translate.{untranslated, isMessage, guestOf, stagesOf, directoryOf, translateOf}
+use Rattle.iommu.specs.Request.{storableAs, finish, requestOf, afterRequest}
+use Rattle.iommu.specs.Files.{takeOf, afterTakeOf}
+use Rattle.iommu.specs.Operations.{Lent, Op, request, take}
+use Rattle.ledger.specs.Machine.{Call, routines, leftBy, history}
+use Rattle.ledger.specs.Ledger.{Account, pendingIn, enteredAll, accountOf}
+use Rattle.ledger.specs.Closes.{Closes, Adds, accountAfter, pendingAfter, answerAt}
+use Rattle.ledger.proofs.Closing.{closes}
+use Rattle.ledger.proofs.Corollaries.{nothing-lost}
+use Rattle.ledger.proofs.Whole.{counted-all}
+use Rattle.message.specs.declared.Destination.{Destination}
+use Rattle.iommu_translation.specs.declared.Outcome.{Outcome}
+use Rattle.iommu.specs.declared.Answer.the-variants.{Stored}
+use Rattle.iommu.specs.Operations.{answerOf, afterOf}
+use Rattle.ledger.specs.Machine.{Machine, asks}
+use Rattle.ledger.proofs.Instance.{lent, write}
+use Rattle.ledger.proofs.Answering.{no-way}
+use lib.ListN.{set, getD}
+
+-- it answers everything 6, and overwrites the first byte: that of the device's V and, in the file there, that of no identity's event
+abbrev pub overwriting : Machine Op
+overwriting =
+    record {
+      asked = asks;
+      answer = λ l o. numbers 6 0 0 0;
+      after = λ l o. record { start = l .start; bytes = set (l .bytes) 0 0 };
+      Granted = λ l o. Unit {0};
+      Counts = λ l ops file. Unit {0};
+    }
+
+pub overwriting-breaks : Closes overwriting lent (write 2 0x40000 37 ∷ []) → ⊥
+unfolding lent write leftBy
+overwriting-breaks c =
+    no-way (c .changes [] (write 2 0x40000 37) ([], refl) .others 0 (λ file n h l e. refl))
+
+-- it looks at one root, whatever root a request gives
+abbrev otherRoot : Op → Op
+otherRoot (request mode root q d) = request mode 0x40000 q d
+otherRoot (take file n) = take file n
+
+abbrev pub rootless : Machine Op
+rootless =
+    record {
+      asked = asks;
+      answer = λ l o. numbersOf (answerOf l (otherRoot o));
+      after = λ l o. afterOf l (otherRoot o);
+      Granted = λ l o. Unit {0};
+      Counts = λ l ops file. Unit {0};
+    }
+
+abbrev there : Destination
+there = record { file = 0x40000200; notice = 0x28000000; number = 1029 }
+
+isRecord : Outcome → ℕ
+isRecord (Outcome.Recorded d) = 1
+isRecord (Outcome.Translated a) = 0
+isRecord (Outcome.Redirected a) = 0
+isRecord (Outcome.Fault f) = 0
+
+pub rootless-breaks : Closes rootless lent (write 2 0x40001 37 ∷ []) → ⊥
+unfolding onesIn ones memory legalOf indexOf entryOf allows mappedBy onLoad levelStep levels walkOf secondStageOf firstStageOf pointerOf leafPlace tooWide deviceMisconfigured deviceContextAt deviceContextOf processMisconfigured processContextAt processContextOf processTable firstTableOf recognised packed extract translateReserved recordReserved onNotice onTranslate onMessageEntry messageOf bitAt withBit withoutBit isFile pendingOf afterStore afterTake badWindow requestRefusal takeRefusal untranslated isMessage guestOf stagesOf directoryOf translateOf storableAs finish requestOf afterRequest takeOf afterTakeOf leftBy lent write isRecord
+rootless-breaks c =
+    let s = c .stored [] (write 2 0x40001 37) 2 0x40001 _ 37 there ([], refl) refl .0 refl in
+    no-way (ap isRecord (s .named))

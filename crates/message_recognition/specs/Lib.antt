@@ -1,0 +1,2 @@
+pub mod Recognition
+pub mod Code
