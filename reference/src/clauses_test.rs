@@ -188,10 +188,10 @@ fn rows_have_the_stages_of_each_cause() {
     for (cause, stages) in of_causes {
         expected.extend(stages.iter().map(|stage| (cause, *stage)));
     }
-    let rows = include_str!("../clauses.txt").lines();
+    let rows = include_str!("../../crates/clauses/stdin").lines();
     let calls = rows.filter(|line| line.starts_with(['r', 't', 'p', 'x', 'z', 'f', 'c', 'g']));
     let mut found = BTreeSet::new();
-    for (call, answer) in calls.zip(include_str!("../clauses.out").lines()) {
+    for (call, answer) in calls.zip(include_str!("../../crates/clauses/stdout").lines()) {
         let values: Vec<u64> = answer
             .split(' ')
             .map(|word| word.parse().unwrap())
@@ -229,6 +229,9 @@ fn a_domain_delivers_to_harts() {
 /// The rows of this folder and their answers.
 #[test]
 fn rows_are_answered_as_written() {
-    let answered = answers(include_str!("../clauses.txt"));
-    assert_eq!(answered, Ok(include_str!("../clauses.out").to_string()));
+    let answered = answers(include_str!("../../crates/clauses/stdin"));
+    assert_eq!(
+        answered,
+        Ok(include_str!("../../crates/clauses/stdout").to_string())
+    );
 }
