@@ -34,10 +34,15 @@ fn main() {
     refuse_stale(&top);
     link(&top.join("target/staticlib"), "capi");
     println!("cargo:rustc-check-cfg=cfg(before)");
+    println!("cargo:rustc-check-cfg=cfg(before_windows, values(\"one\", \"two\"))");
     if let Ok(folder) = env::var("YASMUREKH_BEFORE") {
         link(Path::new(&folder), "before");
         println!("cargo:rustc-cfg=before");
+        let windows = env::var("YASMUREKH_BEFORE_WINDOWS");
+        let windows = windows.expect("one or two, as bench/before says");
+        println!("cargo:rustc-cfg=before_windows=\"{windows}\"");
     }
     println!("cargo:rerun-if-env-changed=YASMUREKH_BEFORE");
+    println!("cargo:rerun-if-env-changed=YASMUREKH_BEFORE_WINDOWS");
     println!("cargo:rerun-if-changed=build.rs");
 }

@@ -2,23 +2,33 @@
  * Yasmurekh: a RISC-V IOMMU in software, with memory-resident interrupt files,
  * and a domain of an interrupt controller (APLIC) for devices that signal by wire.
  *
- * All tables and interrupt files lie in one window of memory that the caller
- * lends; a wired domain is a state of 87 words that the caller lends. No routine
- * keeps state, allocates or blocks; calls on different windows or states may run
- * at the same time. Nothing outside the archive is called, no C library either.
+ * All tables and interrupt files lie in two windows of memory that the caller
+ * lends, wherever it likes: tables on chip and files in main memory, say. A window
+ * is lent bytes and the physical address of the first of them. Either may be empty,
+ * both too: an empty window has no bytes, overlaps nothing wherever it starts, and
+ * nothing is found in it; where both are, every table load faults. Two windows may
+ * touch, in either order; where they have an address in common every call is
+ * refused. Whoever has one window gives an empty second one, at 0.
  *
- * Every routine is total: it answers any numbers, any bytes in the window and any
+ * A wired domain is a state of 87 words that the caller lends. No routine keeps
+ * state, allocates or blocks; calls on different windows or states may run at the
+ * same time. Nothing outside the archive is called, no C library either.
+ *
+ * Every routine is total: it answers any numbers, any bytes in the windows and any
  * words in the state, and reads and writes nothing but the buffers that it is
  * lent. What the caller owes is what C cannot check:
- *   - `window` points to `window_len` bytes, `state` to `state_len` words and
- *     `out` to `out_len` words that may be read and written (a report only reads
- *     the window);
- *   - `state` and `out` are aligned for uint64_t; the window needs no alignment;
- *   - the two buffers of a call do not overlap;
+ *   - `first` points to `first_len` bytes, `second` to `second_len` bytes, `state`
+ *     to `state_len` words and `out` to `out_len` words that may be read and
+ *     written (a report only reads the windows);
+ *   - `state` and `out` are aligned for uint64_t; a window needs no alignment;
+ *   - the buffers of a call do not overlap, `first`, `second` and `out` no more
+ *     than `state` and `out`;
  *   - nothing else changes them during the call.
  * A pointer is never looked at where its length is 0 (and `state` and `out` never
- * where their own is too small), so NULL is fine there and nowhere else. An empty
- * window is legal: every table load then faults.
+ * where their own is too small), so NULL is fine there and nowhere else.
+ *
+ * This header goes with an archive of two windows. Older archives have one, and
+ * functions of the same names with other parameters, which no linker tells apart.
  *
  * Page tables: Sv39, Sv48 and Sv57 for the first stage, modes 8, 9 and 10 of fsc;
  * Sv39x4, Sv48x4 and Sv57x4 for the second, the same modes of iohgatp, its root
@@ -66,14 +76,15 @@ extern "C" {
 #define YASMUREKH_TAKEN 6u   /* 1 if the interrupt was pending, else 0 */
 
 /* Refusals, in the order in which they are looked for; 2010 comes first. */
-#define YASMUREKH_REFUSAL_WINDOW 2001u       /* start or length not whole pages, or end above 2^56 */
+#define YASMUREKH_REFUSAL_WINDOW 2001u       /* a window's start or length not whole pages, or its end above 2^56 */
+#define YASMUREKH_REFUSAL_OVERLAP 2011u      /* an address lies in both windows */
 #define YASMUREKH_REFUSAL_DIRECTORY 2002u    /* mode above 4, or root page number of 2^44 or more */
 #define YASMUREKH_REFUSAL_DEVICE 2003u       /* device_id of 2^24 or more */
 #define YASMUREKH_REFUSAL_PROCESS 2004u      /* process_id of 2^20 or more */
 #define YASMUREKH_REFUSAL_SUPERVISOR 2005u   /* supervisor without a process_id */
 #define YASMUREKH_REFUSAL_LENGTH 2006u       /* length 0, or past the end of the page */
-#define YASMUREKH_REFUSAL_FILE_OUTSIDE 2007u /* request: a storable message, its file not in the window */
-#define YASMUREKH_REFUSAL_FILE 2008u         /* take, report: no file of the window */
+#define YASMUREKH_REFUSAL_FILE_OUTSIDE 2007u /* request: a storable message, its file in neither window */
+#define YASMUREKH_REFUSAL_FILE 2008u         /* take, report: no file of either window */
 #define YASMUREKH_REFUSAL_IDENTITY 2009u     /* take: identity above 2047 */
 #define YASMUREKH_REFUSAL_NUMBER 2010u       /* request: unknown access or flag */
 #define YASMUREKH_REFUSAL_SOURCE 2014u       /* wire: source outside 1 to 63; the status of the call */
@@ -135,60 +146,190 @@ extern "C" {
 /*
  * Answers one request of a device.
  *
- * `start` is the physical address of the window's first byte, `mode` and `root`
- * are the directory mode and the root page number of the device directory.
- * `process` counts only with YASMUREKH_PROCESS_GIVEN in `flags`. `value` is the
- * data of a 4-byte write, its four bytes read little-endian; no other access
+ * `first_start` is the physical address of the first window's first byte,
+ * `second_start` that of the second's; which of the two holds what doesn't matter.
+ * `mode` and `root` are the directory mode and the root page number of the device
+ * directory. `process` counts only with YASMUREKH_PROCESS_GIVEN in `flags`. `value`
+ * is the data of a 4-byte write, its four bytes read little-endian; no other access
  * uses it.
  *
- * Lent: the window and `out`. Changed: the first five words of `out`, and, where
- * the answer is YASMUREKH_STORED, the one byte of the window that holds the
+ * Lent: both windows and `out`. Changed: the first five words of `out`, and, where
+ * the answer is YASMUREKH_STORED, the one byte of the one window that holds the
  * pending bit of the message's identity (a bit that was set stays set, and the
- * notice is given again). Never changed: the window under any other answer, any
- * other byte of it, and the words of `out` after the fifth. The device's memory
+ * notice is given again). Never changed: either window under any other answer, any
+ * other byte of them, and the words of `out` after the fifth. The device's memory
  * is not accessed and no notice is sent: the answer says where they go, and the
  * caller does it.
  *
  * Returns YASMUREKH_OK; or YASMUREKH_SHORT_BUFFER, with nothing changed, where
  * `out_len` is below YASMUREKH_ANSWER_WORDS.
  */
-uint64_t yasmurekh_request(uint64_t start, uint8_t *window, size_t window_len,
+uint64_t yasmurekh_request(uint64_t first_start, uint8_t *first, size_t first_len,
+                           uint64_t second_start, uint8_t *second, size_t second_len,
                            uint64_t mode, uint64_t root, uint64_t device,
                            uint64_t process, uint64_t flags, uint64_t access,
                            uint64_t address, uint64_t length, uint32_t value,
                            uint64_t *out, size_t out_len);
 
 /*
- * Takes an interrupt of the file at physical address `file`: tells whether it
- * was pending, and makes it pending no more.
+ * Takes an interrupt of the file at physical address `file`, in whichever window it
+ * lies: tells whether it was pending, and makes it pending no more.
  *
- * Lent: the window and `out`. Changed: the first five words of `out`, and, where
- * the answer is YASMUREKH_TAKEN with 1, the one byte that holds the pending bit
- * of `identity`. Never changed: enable bits, any other byte of the window, the
- * window under any other answer, and the words of `out` after the fifth.
- * Refusals: 2001, 2008, 2009.
+ * Lent: both windows and `out`. Changed: the first five words of `out`, and, where
+ * the answer is YASMUREKH_TAKEN with 1, the one byte of the one window that holds
+ * the pending bit of `identity`. Never changed: enable bits, any other byte of the
+ * windows, either window under any other answer, and the words of `out` after the
+ * fifth. Refusals: 2001, 2011, 2008, 2009.
  *
  * Returns as yasmurekh_request does.
  */
-uint64_t yasmurekh_take(uint64_t start, uint8_t *window, size_t window_len,
+uint64_t yasmurekh_take(uint64_t first_start, uint8_t *first, size_t first_len,
+                        uint64_t second_start, uint8_t *second, size_t second_len,
                         uint64_t file, uint64_t identity, uint64_t *out,
                         size_t out_len);
 
 /*
- * Reports the file at physical address `file`: refusal (0 where there is none),
- * the number of pending interrupts, identity 0 included, then 32 pairs of
- * doublewords, pending and enable; identity n is bit n mod 64 of pair n div 64.
- * A refusal, 2001 or 2008, has count 0 and zero pairs beside it.
+ * Reports the file at physical address `file`, in whichever window it lies: refusal
+ * (0 where there is none), the number of pending interrupts, identity 0 included,
+ * then 32 pairs of doublewords, pending and enable; identity n is bit n mod 64 of
+ * pair n div 64. A refusal, 2001, 2011 or 2008, has count 0 and zero pairs beside it.
  *
- * Lent: the window, for reading alone, and `out`. Changed: the first 66 words of
- * `out`. Never changed: the window, and the words of `out` after the 66th.
+ * Lent: both windows, for reading alone, and `out`. Changed: the first 66 words of
+ * `out`. Never changed: the windows, and the words of `out` after the 66th.
  *
  * Returns YASMUREKH_OK; or YASMUREKH_SHORT_BUFFER, with nothing changed, where
  * `out_len` is below YASMUREKH_REPORT_WORDS.
  */
-uint64_t yasmurekh_report(uint64_t start, const uint8_t *window,
-                          size_t window_len, uint64_t file, uint64_t *out,
-                          size_t out_len);
+uint64_t yasmurekh_report(uint64_t first_start, const uint8_t *first, size_t first_len,
+                          uint64_t second_start, const uint8_t *second, size_t second_len,
+                          uint64_t file, uint64_t *out, size_t out_len);
+
+/*
+ * The same three calls with a name for each number. They give the room for the answer
+ * themselves, so that no call ends in YASMUREKH_SHORT_BUFFER; a status that isn't
+ * YASMUREKH_OK, which the archive of this header never gives them, comes back as a
+ * refusal by that status, and so do words that it left unwritten.
+ */
+
+/* A window: the physical address of its first byte, and its bytes; `{0, NULL, 0}` is an empty one. */
+struct yasmurekh_window {
+    uint64_t start;
+    uint8_t *bytes;
+    size_t length;
+};
+
+/* The two windows; which of them holds what doesn't matter. */
+struct yasmurekh_memory {
+    struct yasmurekh_window first;
+    struct yasmurekh_window second;
+};
+
+/* The device directory: its mode, and the page number of its root. */
+struct yasmurekh_directory {
+    uint64_t mode;
+    uint64_t root;
+};
+
+/* What a device asks; `process`, `flags` and `value` as for yasmurekh_request. */
+struct yasmurekh_device_request {
+    uint64_t device;
+    uint64_t process;
+    uint64_t flags;
+    uint64_t access;
+    uint64_t address;
+    uint64_t length;
+    uint32_t value;
+};
+
+/* The answer of a request and of a take: its kind, three values, the stage of a fault. */
+struct yasmurekh_answer {
+    uint64_t kind;
+    uint64_t first;
+    uint64_t second;
+    uint64_t third;
+    uint64_t stage;
+};
+
+/* 64 identities of a file: a pending and an enable bit for each. */
+struct yasmurekh_pair {
+    uint64_t pending;
+    uint64_t enable;
+};
+
+/* A file as it stands: identity n is bit n mod 64 of pair n div 64; all 0 beside a refusal. */
+struct yasmurekh_file_report {
+    uint64_t refusal;
+    uint64_t count;
+    struct yasmurekh_pair pairs[YASMUREKH_FILE_PAIRS];
+};
+
+/* The answer in the words of `out`; with a status that isn't YASMUREKH_OK a refusal by it. */
+static inline struct yasmurekh_answer yasmurekh_answer_of(uint64_t status, const uint64_t *out)
+{
+    struct yasmurekh_answer answer = {YASMUREKH_REFUSED, status, 0, 0, 0};
+
+    if (status == YASMUREKH_OK) {
+        answer.kind = out[YASMUREKH_OUT_KIND];
+        answer.first = out[YASMUREKH_OUT_FIRST];
+        answer.second = out[YASMUREKH_OUT_SECOND];
+        answer.third = out[YASMUREKH_OUT_THIRD];
+        answer.stage = out[YASMUREKH_OUT_STAGE];
+    }
+    return answer;
+}
+
+/* As yasmurekh_request: answers one request of a device. */
+static inline struct yasmurekh_answer
+yasmurekh_memory_request(const struct yasmurekh_memory *memory,
+                         const struct yasmurekh_directory *directory,
+                         const struct yasmurekh_device_request *asked)
+{
+    uint64_t out[YASMUREKH_ANSWER_WORDS] = {YASMUREKH_REFUSED, YASMUREKH_SHORT_BUFFER, 0, 0, 0};
+    uint64_t status = yasmurekh_request(
+        memory->first.start, memory->first.bytes, memory->first.length,
+        memory->second.start, memory->second.bytes, memory->second.length,
+        directory->mode, directory->root, asked->device, asked->process, asked->flags,
+        asked->access, asked->address, asked->length, asked->value,
+        out, YASMUREKH_ANSWER_WORDS);
+
+    return yasmurekh_answer_of(status, out);
+}
+
+/* As yasmurekh_take: takes an interrupt of the file at a physical address. */
+static inline struct yasmurekh_answer
+yasmurekh_memory_take(const struct yasmurekh_memory *memory, uint64_t file, uint64_t identity)
+{
+    uint64_t out[YASMUREKH_ANSWER_WORDS] = {YASMUREKH_REFUSED, YASMUREKH_SHORT_BUFFER, 0, 0, 0};
+    uint64_t status = yasmurekh_take(
+        memory->first.start, memory->first.bytes, memory->first.length,
+        memory->second.start, memory->second.bytes, memory->second.length,
+        file, identity, out, YASMUREKH_ANSWER_WORDS);
+
+    return yasmurekh_answer_of(status, out);
+}
+
+/* As yasmurekh_report: reports the file at a physical address. */
+static inline struct yasmurekh_file_report
+yasmurekh_memory_report(const struct yasmurekh_memory *memory, uint64_t file)
+{
+    uint64_t out[YASMUREKH_REPORT_WORDS] = {YASMUREKH_SHORT_BUFFER};
+    struct yasmurekh_file_report report = {0, 0, {{0, 0}}};
+    unsigned k;
+
+    report.refusal = yasmurekh_report(
+        memory->first.start, memory->first.bytes, memory->first.length,
+        memory->second.start, memory->second.bytes, memory->second.length,
+        file, out, YASMUREKH_REPORT_WORDS);
+    if (report.refusal != YASMUREKH_OK)
+        return report;
+    report.refusal = out[YASMUREKH_REPORT_REFUSAL];
+    report.count = out[YASMUREKH_REPORT_COUNT];
+    for (k = 0; k < YASMUREKH_FILE_PAIRS; k++) {
+        report.pairs[k].pending = out[YASMUREKH_REPORT_PENDING(k)];
+        report.pairs[k].enable = out[YASMUREKH_REPORT_ENABLE(k)];
+    }
+    return report;
+}
 
 /*
  * The wired domain: one supervisor leaf domain of an APLIC, little-endian, sources

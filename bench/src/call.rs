@@ -5,10 +5,23 @@ use crate::plain::Access;
 /// Kind, three values, stage.
 pub type Numbers = [u64; 5];
 
-/// The window's start and the device directory.
+/// A window: the address of its first byte, and its bytes.
+#[derive(Clone, Debug, Default, PartialEq, Eq)]
+pub struct Window {
+    pub start: u64,
+    pub bytes: Vec<u8>,
+}
+
+/// Both windows.
+#[derive(Clone, Debug, Default, PartialEq, Eq)]
+pub struct Memory {
+    pub first: Window,
+    pub second: Window,
+}
+
+/// The device directory.
 #[derive(Clone, Copy, Debug, Default)]
 pub struct Settings {
-    pub start: u64,
     pub mode: u64,
     pub root: u64,
 }

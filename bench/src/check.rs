@@ -1,9 +1,11 @@
 //! The plain program and the proved library against the reference program, over generated lists.
 
-use crate::call::{Numbers, Settings};
+use crate::call::{Memory, Numbers, Settings, Window};
 use crate::plain::{self, Access};
 use crate::proved::{now, Raw};
+use yasmurekh_reference::coverage::run_call;
 use yasmurekh_reference::generate::{list, Call, List};
+use yasmurekh_reference::memory as reference_memory;
 use yasmurekh_reference::types as reference;
 
 fn numbers(answer: reference::Answer) -> Numbers {
@@ -20,14 +22,37 @@ fn access(access: reference::Access) -> Access {
     }
 }
 
-/// The answers of reference, library and plain program to one call.
-fn answers(start: u64, windows: &mut [Vec<u8>; 3], call: &Call) -> [Numbers; 3] {
-    let [first, second, third] = windows;
+/// A request as the library's face has it, and as the plain program has it.
+fn requests(request: &reference::Request, data: u32) -> (Raw, plain::Request) {
+    let given = u64::from(request.process_id.is_some());
+    let raw = Raw {
+        device: request.device_id,
+        process: request.process_id.unwrap_or(0),
+        flags: given | u64::from(request.supervisor) << 1,
+        access: access(request.access) as u64,
+        address: request.address,
+        length: request.length,
+        value: data,
+    };
+    let asked = plain::Request {
+        device: request.device_id,
+        process: request.process_id,
+        supervisor: request.supervisor,
+        access: access(request.access),
+        address: request.address,
+        length: request.length,
+        value: data,
+    };
+    (raw, asked)
+}
+
+/// The answers of library and plain program to one call.
+fn answers(memories: &mut [Memory; 2], call: &Call) -> [Numbers; 2] {
+    let [first, second] = memories;
     match *call {
         Call::Take { file, identity } => [
-            numbers(yasmurekh_reference::take(start, first, file, identity)),
-            now::take(start, second, file, identity),
-            plain::take(start, third, file, identity).numbers(),
+            now::take(first, file, identity),
+            plain::take(second, file, identity).numbers(),
         ],
         Call::Request {
             mode,
@@ -35,45 +60,44 @@ fn answers(start: u64, windows: &mut [Vec<u8>; 3], call: &Call) -> [Numbers; 3] 
             request,
             data,
         } => {
-            let settings = Settings { start, mode, root };
-            let given = u64::from(request.process_id.is_some());
-            let raw = Raw {
-                device: request.device_id,
-                process: request.process_id.unwrap_or(0),
-                flags: given | u64::from(request.supervisor) << 1,
-                access: access(request.access) as u64,
-                address: request.address,
-                length: request.length,
-                value: data,
-            };
-            let asked = plain::Request {
-                device: request.device_id,
-                process: request.process_id,
-                supervisor: request.supervisor,
-                access: access(request.access),
-                address: request.address,
-                length: request.length,
-                value: data,
-            };
-            let theirs = reference::Settings { start, mode, root };
+            let (raw, asked) = requests(&request, data);
             [
-                numbers(yasmurekh_reference::request(&theirs, first, &request, data)),
-                now::request(&settings, second, &raw),
-                plain::request(start, third, mode, root, &asked).numbers(),
+                now::request(first, &Settings { mode, root }, &raw),
+                plain::request(second, mode, root, &asked).numbers(),
             ]
         }
     }
 }
 
+fn window(window: &reference_memory::Window) -> Window {
+    Window {
+        start: window.start,
+        bytes: window.bytes.clone(),
+    }
+}
+
+fn memory(memory: &reference_memory::Memory) -> Memory {
+    Memory {
+        first: window(&memory.first),
+        second: window(&memory.second),
+    }
+}
+
+fn same(memory: &Memory, theirs: &reference_memory::Memory) -> bool {
+    let window = |ours: &Window, theirs: &reference_memory::Window| {
+        ours.start == theirs.start && ours.bytes == theirs.bytes
+    };
+    window(&memory.first, &theirs.first) && window(&memory.second, &theirs.second)
+}
+
 fn check_list(list: &List) -> Result<(), String> {
-    let mut windows = [(); 3].map(|()| list.window.clone());
+    let mut theirs = list.memory.clone();
+    let mut memories = [memory(&theirs), memory(&theirs)];
     for call in &list.calls {
-        let [expected, proved, plain] = answers(list.start, &mut windows, call);
-        if proved != expected
-            || plain != expected
-            || windows[1] != windows[0]
-            || windows[2] != windows[0]
-        {
+        let expected = numbers(run_call(&mut theirs, call, &mut |_| {}));
+        let [proved, plain] = answers(&mut memories, call);
+        let kept = memories.iter().all(|memory| same(memory, &theirs));
+        if proved != expected || plain != expected || !kept {
             return Err(format!(
                 "{call:x?}: reference {expected:?}, proved {proved:?}, plain {plain:?}"
             ));

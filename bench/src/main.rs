@@ -23,6 +23,7 @@ use measure::{side, Side};
 use program::{Plain, Proved};
 use rows::Row;
 use std::env;
+use std::iter;
 use std::process::ExitCode;
 use std::slice;
 use timing::{Measured, Times};
@@ -101,15 +102,17 @@ fn measure_all(effort: &Effort) -> Result<(), String> {
     println!(
         "\nThe same tables in windows of several sizes (both stages, 4 KiB / 4 KiB, one device):\n"
     );
-    together(rows::window_rows(), effort)?;
+    together(&[rows::window_rows()], effort)?;
     println!("\nDirectories of one, two and three levels (both stages, 4 KiB / 4 KiB):\n");
-    together(rows::depth_rows(), effort)?;
+    together(&[rows::depth_rows()], effort)?;
+    println!("\nTables and files in either window:\n");
+    together(&rows::place_rows(), effort)?;
     println!(
         "\nRatio: proved rate / plain rate, median of {} rounds; above 1 the proved library is faster.",
         effort.rounds
     );
     println!(
-        "Growth: the proved library's cost over its cost in the first row, in the same round."
+        "Growth: the proved library's cost over its cost in the first row of its kind, in the same round."
     );
     println!("\nThe wired domain:\n");
     measure_domain(effort)
@@ -148,19 +151,21 @@ fn columns(times: &Times) -> String {
     format!("{proved:.1} | {plain:.1} | {}", ratio(times.rate(0, 1)))
 }
 
-/// Rows that are measured against the first of them.
-fn together(rows: Vec<Row>, effort: &Effort) -> Result<(), String> {
+/// Groups of rows that are measured against the first of each.
+fn together(groups: &[Vec<Row>], effort: &Effort) -> Result<(), String> {
     println!(
         "| Row | proved, ns | plain, ns | ratio | least to greatest | growth | least to greatest |"
     );
     println!("|---|---|---|---|---|---|---|");
-    for row in &rows {
-        measure::compare(row, &BOTH)?;
-    }
-    let all = timing::time(&rows, &BOTH, effort.rounds, effort.nanoseconds);
-    for (row, times) in rows.iter().zip(&all) {
-        let growth = ratio(times.growth(&all[0]));
-        println!("| {} | {} | {growth} |", row.name, columns(times));
+    for rows in groups {
+        for row in rows {
+            measure::compare(row, &BOTH)?;
+        }
+        let all = timing::time(rows, &BOTH, effort.rounds, effort.nanoseconds);
+        for (row, times) in rows.iter().zip(&all) {
+            let growth = ratio(times.growth(&all[0]));
+            println!("| {} | {} | {growth} |", row.name, columns(times));
+        }
     }
     Ok(())
 }
@@ -173,37 +178,58 @@ fn measure_before(effort: &Effort, text: &str) -> Result<(), String> {
         "| Row | before, ns | now, ns | plain, ns | now / before | least to greatest | before / plain | now / plain |"
     );
     println!("|---|---|---|---|---|---|---|---|");
-    let rows = rows::main_rows().into_iter();
-    for row in rows.filter(|row| row.name.contains(text)) {
-        if measure::is_unknown(&row, ALL[2]) {
-            println!("| {} | not served: fault 259 | | | | | | |", row.name);
-            continue;
-        }
-        measure::compare(&row, ALL)?;
-        let times = time_one(&row, ALL, effort);
-        let [now, plain, before] = [0, 1, 2].map(|side| times.of(side)[0]);
-        let change = ratio(times.rate(0, 2));
-        let [was, is] = [2, 0].map(|side| times.rate(side, 1)[0]);
-        println!(
-            "| {} | {before:.1} | {now:.1} | {plain:.1} | {change} | {was:.2} | {is:.2} |",
-            row.name
-        );
+    for row in named_rows().filter(|row| row.name.contains(text)) {
+        println!("| {} | {} |", row.name, before_columns(&row, effort)?);
     }
     println!("\nRatios of rates, medians of {} rounds.", effort.rounds);
     println!("Not served: the earlier library takes the row's contexts for misconfigured.");
     Ok(())
 }
 
+/// Of a row that the earlier library can't run, the other two alone.
+fn before_columns(row: &Row, effort: &Effort) -> Result<String, String> {
+    let unknown = measure::unknown(row, ALL[2]);
+    let sides = if unknown.is_some() { &BOTH } else { ALL };
+    measure::compare(row, sides)?;
+    let times = time_one(row, sides, effort);
+    let [now, plain] = [0, 1].map(|side| times.of(side)[0]);
+    let is = times.rate(0, 1)[0];
+    if let Some(why) = unknown {
+        return Ok(format!("{why} | {now:.1} | {plain:.1} | | | | {is:.2}"));
+    }
+    let (before, was) = (times.of(2)[0], times.rate(2, 1)[0]);
+    let change = ratio(times.rate(0, 2));
+    Ok(format!(
+        "{before:.1} | {now:.1} | {plain:.1} | {change} | {was:.2} | {is:.2}"
+    ))
+}
+
+/// All rows of the IOMMU, each once; those of the main table are made first.
+fn named_rows() -> impl Iterator<Item = Row> {
+    // The first of a group is in the main table.
+    let placed = iter::once_with(rows::place_rows).flatten();
+    let placed = placed.flat_map(|group| group.into_iter().skip(1));
+    let sized = iter::once_with(rows::window_rows).flatten();
+    let deep = iter::once_with(rows::depth_rows).flatten();
+    rows::main_rows()
+        .into_iter()
+        .chain(sized)
+        .chain(deep)
+        .chain(placed)
+}
+
 fn alone(name: &str, side: &str, times: &str) -> Result<(), String> {
     let times = times.parse().map_err(|_| format!("no number: {times}"))?;
     let unknown = || format!("no side {side}");
-    let mut rows = rows::main_rows();
-    rows.append(&mut rows::window_rows());
-    rows.append(&mut rows::depth_rows());
-    let (row, calls, sum) = match rows.iter().find(|row| row.name.starts_with(name)) {
+    let (row, calls, sum) = match named_rows().find(|row| row.name.starts_with(name)) {
         Some(row) => {
             let side = ALL.iter().find(|known| known.name == side);
-            let sum = timing::alone(*side.ok_or_else(unknown)?, row, times);
+            let side = *side.ok_or_else(unknown)?;
+            let why = measure::unknown(&row, side).filter(|_| side.name == "before");
+            if let Some(why) = why {
+                return Err(format!("{} of an earlier library: {why}", row.name));
+            }
+            let sum = timing::alone(side, &row, times);
             (row.name.clone(), row.calls(), sum)
         }
         None => {

@@ -1,6 +1,6 @@
 //! Programs over a row: compared call by call, and run over it.
 
-use crate::call::{Call, Numbers, Settings};
+use crate::call::{Call, Memory, Numbers, Settings};
 use crate::program::Program;
 use crate::rows::{Kind, Row};
 use crate::timing::Measured;
@@ -10,8 +10,8 @@ use std::hint::black_box;
 #[derive(Clone, Copy)]
 pub struct Side {
     pub name: &'static str,
-    once: fn(Kind, &Settings, &mut [u8], &Call) -> Numbers,
-    run: fn(&Row, &mut [u8]) -> u64,
+    once: fn(Kind, &mut Memory, &Settings, &Call) -> Numbers,
+    run: fn(&Row, &mut Memory) -> u64,
 }
 
 pub const fn side<P: Program>(name: &'static str) -> Side {
@@ -23,10 +23,10 @@ pub const fn side<P: Program>(name: &'static str) -> Side {
 }
 
 #[inline]
-fn once<P: Program>(kind: Kind, settings: &Settings, window: &mut [u8], call: &Call) -> Numbers {
+fn once<P: Program>(kind: Kind, memory: &mut Memory, settings: &Settings, call: &Call) -> Numbers {
     match kind {
-        Kind::Requests => P::request(settings, window, call),
-        Kind::Takes => P::take(settings.start, window, call.address, u64::from(call.value)),
+        Kind::Requests => P::request(memory, settings, call),
+        Kind::Takes => P::take(memory, call.address, u64::from(call.value)),
     }
 }
 
@@ -41,15 +41,15 @@ fn summed(sum: u64, numbers: Numbers) -> u64 {
 /// All calls of a row on one side; gives the sum of the answers. One loop for each kind, so that
 /// the compiler may do with each program what it can.
 #[inline(never)]
-fn run<P: Program>(row: &Row, window: &mut [u8]) -> u64 {
+fn run<P: Program>(row: &Row, memory: &mut Memory) -> u64 {
     let settings = black_box(row.world.settings);
     let calls = row.calls.iter();
     match row.kind {
         Kind::Requests => calls.fold(0, |sum, call| {
-            summed(sum, once::<P>(Kind::Requests, &settings, window, call))
+            summed(sum, once::<P>(Kind::Requests, memory, &settings, call))
         }),
         Kind::Takes => calls.fold(0, |sum, call| {
-            summed(sum, once::<P>(Kind::Takes, &settings, window, call))
+            summed(sum, once::<P>(Kind::Takes, memory, &settings, call))
         }),
     }
 }
@@ -57,11 +57,11 @@ fn run<P: Program>(row: &Row, window: &mut [u8]) -> u64 {
 /// Each call on two sides, with the same answer, of the row's kind, and the same bytes after them.
 fn compare_two(row: &Row, ours: Side, theirs: Side) -> Result<(), String> {
     let settings = row.world.settings;
-    let mut windows = [row.world.bytes.clone(), row.world.bytes.clone()];
+    let mut memories = [row.world.memory(), row.world.memory()];
     let mut seen = vec![false; row.answers.len()];
     for call in &row.calls {
-        let answer = (ours.once)(row.kind, &settings, &mut windows[0], call);
-        let other = (theirs.once)(row.kind, &settings, &mut windows[1], call);
+        let answer = (ours.once)(row.kind, &mut memories[0], &settings, call);
+        let other = (theirs.once)(row.kind, &mut memories[1], &settings, call);
         if answer != other {
             return Err(format!("{}: {call:x?}: {answer:?}, {other:?}", row.name));
         }
@@ -73,7 +73,7 @@ fn compare_two(row: &Row, ours: Side, theirs: Side) -> Result<(), String> {
             return Err(format!("{}: {call:x?}: number {}", row.name, answer[1]));
         }
     }
-    if windows[0] != windows[1] {
+    if memories[0] != memories[1] {
         return Err(format!("{}: the windows differ", row.name));
     }
     if seen.contains(&false) {
@@ -82,12 +82,16 @@ fn compare_two(row: &Row, ours: Side, theirs: Side) -> Result<(), String> {
     Ok(())
 }
 
-/// Whether a side takes a row's contexts for misconfigured (259): an earlier library does so where
-/// a mode or a mask came after it. No row asks for that fault.
-pub fn is_unknown(row: &Row, side: Side) -> bool {
-    let mut window = row.world.bytes.clone();
-    let first = (side.once)(row.kind, &row.world.settings, &mut window, &row.calls[0]);
-    first[..2] == [4, 259]
+/// Why an earlier library can't run a row, if it can't: it has one window and the row two; or it takes
+/// the row's contexts for misconfigured (259), since a mode or a mask came after it. No row asks for
+/// that fault.
+pub fn unknown(row: &Row, side: Side) -> Option<&'static str> {
+    let mut memory = row.world.memory();
+    if cfg!(before_windows = "one") && !memory.second.bytes.is_empty() {
+        return Some("one window only");
+    }
+    let first = (side.once)(row.kind, &mut memory, &row.world.settings, &row.calls[0]);
+    (first[..2] == [4, 259]).then_some("not served: fault 259")
 }
 
 /// The first side against each of the others.
@@ -99,17 +103,17 @@ pub fn compare(row: &Row, sides: &[Side]) -> Result<(), String> {
 
 impl Measured for Row {
     type Side = Side;
-    type State = Vec<u8>;
+    type State = Memory;
 
     fn calls(&self) -> usize {
         self.calls.len()
     }
 
-    fn start(&self) -> Vec<u8> {
-        self.world.bytes.clone()
+    fn start(&self) -> Memory {
+        self.world.memory()
     }
 
-    fn run(&self, side: Side, window: &mut Vec<u8>) -> u64 {
-        (side.run)(self, window)
+    fn run(&self, side: Side, memory: &mut Memory) -> u64 {
+        (side.run)(self, memory)
     }
 }

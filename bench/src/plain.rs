@@ -3,6 +3,11 @@
 //! A walk is a chain of loads, each at an address made of the entry loaded before: what can be computed
 //! outside the chain is. An entry's bits are tested together under one mask; causes are computed only
 //! where a fault is met.
+//!
+//! A request is translated in the window that holds the directory's root, as if it were the only one;
+//! only where a load isn't in it, once more with both.
+
+use crate::call::{Memory, Window};
 
 /// The access of a request.
 #[derive(Clone, Copy, Debug, PartialEq, Eq)]
@@ -73,6 +78,9 @@ const fn fault(cause: u64, stage: Stage) -> Fault {
     cause | (stage as u64) << 32
 }
 
+/// Set in a fault where a load wasn't in the window: it may be in the other.
+const LOAD: Fault = 1 << 63;
+
 const STAGES: [Stage; 5] = [
     Stage::Directory,
     Stage::ProcessDirectory,
@@ -81,14 +89,14 @@ const STAGES: [Stage; 5] = [
     Stage::MessageTable,
 ];
 
-const DDT_LOAD: Fault = fault(257, Stage::Directory);
+const DDT_LOAD: Fault = LOAD | fault(257, Stage::Directory);
 const DDT_INVALID: Fault = fault(258, Stage::Directory);
 const DDT_MISCONFIGURED: Fault = fault(259, Stage::Directory);
 const DISALLOWED: Fault = fault(260, Stage::Directory);
-const PDT_LOAD: Fault = fault(265, Stage::ProcessDirectory);
+const PDT_LOAD: Fault = LOAD | fault(265, Stage::ProcessDirectory);
 const PDT_INVALID: Fault = fault(266, Stage::ProcessDirectory);
 const PDT_MISCONFIGURED: Fault = fault(267, Stage::ProcessDirectory);
-const MSI_LOAD: Fault = fault(261, Stage::MessageTable);
+const MSI_LOAD: Fault = LOAD | fault(261, Stage::MessageTable);
 const MSI_INVALID: Fault = fault(262, Stage::MessageTable);
 const MSI_MISCONFIGURED: Fault = fault(263, Stage::MessageTable);
 
@@ -215,41 +223,23 @@ fn walk<E: From<Broken>>(
     }
 }
 
-/// The window.
-#[derive(Clone, Copy)]
-struct Memory<'a> {
-    start: u64,
-    bytes: &'a [u8],
-}
+/// Where tables are looked for.
+trait Tabled: Copy {
+    /// So many doublewords in a row from an address on.
+    fn load_all<const N: usize>(self, address: u64) -> Option<[u64; N]>;
 
-impl Memory<'_> {
-    /// The doubleword so far from the start; an address below the start is farther than the end.
-    #[inline(always)]
-    fn at(self, distance: u64) -> Option<u64> {
-        let word = self.bytes.get(distance as usize..)?.first_chunk()?;
-        Some(u64::from_le_bytes(*word))
-    }
+    /// The doubleword at a place of a table.
+    fn word(self, table: u64, place: u64) -> Option<u64>;
 
     #[inline(always)]
     fn load(self, address: u64) -> Option<u64> {
-        self.at(address.wrapping_sub(self.start))
-    }
-
-    /// So many doublewords in a row.
-    #[inline(always)]
-    fn load_all<const N: usize>(self, address: u64) -> Option<[u64; N]> {
-        let distance = address.wrapping_sub(self.start);
-        let (words, _) = self.bytes.get(distance as usize..)?.as_chunks();
-        let words: &[[u8; 8]; N] = words.first_chunk()?;
-        Some(words.map(u64::from_le_bytes))
+        self.word(address, 0)
     }
 
     /// The entry at a place of a table.
     #[inline(always)]
     fn entry(self, table: u64, place: u64) -> Result<u64, Broken> {
-        // The place is known before the table is, so that the start is taken off in time.
-        let distance = table.wrapping_add(place.wrapping_sub(self.start));
-        self.at(distance).ok_or(Broken::Load)
+        self.word(table, place).ok_or(Broken::Load)
     }
 
     /// The second stage's leaf for a guest address.
@@ -300,6 +290,69 @@ impl Memory<'_> {
     }
 }
 
+/// One window.
+#[derive(Clone, Copy)]
+struct One<'a> {
+    start: u64,
+    bytes: &'a [u8],
+}
+
+impl<'a> One<'a> {
+    fn of(window: &'a Window) -> One<'a> {
+        One {
+            start: window.start,
+            bytes: &window.bytes,
+        }
+    }
+}
+
+impl Tabled for One<'_> {
+    #[inline(always)]
+    fn load_all<const N: usize>(self, address: u64) -> Option<[u64; N]> {
+        let distance = address.wrapping_sub(self.start);
+        let (words, _) = self.bytes.get(distance as usize..)?.as_chunks();
+        let words: &[[u8; 8]; N] = words.first_chunk()?;
+        Some(words.map(u64::from_le_bytes))
+    }
+
+    #[inline(always)]
+    fn word(self, table: u64, place: u64) -> Option<u64> {
+        // The place is known before the table is, so that the start is taken off in time. An address
+        // below the start is farther than the end.
+        let distance = table.wrapping_add(place.wrapping_sub(self.start));
+        let word = self.bytes.get(distance as usize..)?.first_chunk()?;
+        Some(u64::from_le_bytes(*word))
+    }
+}
+
+/// The window that holds the page of this number; the second where neither does.
+#[inline(always)]
+fn usual(memory: &Memory, page: u64) -> One<'_> {
+    let first = One::of(&memory.first);
+    if (page << 12).wrapping_sub(first.start) < first.bytes.len() as u64 {
+        return first;
+    }
+    One::of(&memory.second)
+}
+
+/// Two windows.
+#[derive(Clone, Copy)]
+struct Both<'a>(One<'a>, One<'a>);
+
+impl Tabled for Both<'_> {
+    #[inline(always)]
+    fn load_all<const N: usize>(self, address: u64) -> Option<[u64; N]> {
+        let first = self.0.load_all(address);
+        first.or_else(|| self.1.load_all(address))
+    }
+
+    #[inline(always)]
+    fn word(self, table: u64, place: u64) -> Option<u64> {
+        let first = self.0.word(table, place);
+        first.or_else(|| self.1.word(table, place))
+    }
+}
+
 /// The tables of one stage: the address of their root, and where its index begins in an address.
 #[derive(Clone, Copy)]
 struct Tables {
@@ -323,40 +376,56 @@ type Second = Option<Tables>;
 
 /// One request. Never inlined: requests come one at a time, as calls do to the archive.
 #[inline(never)]
-pub fn request(start: u64, window: &mut [u8], mode: u64, root: u64, request: &Request) -> Answer {
-    if let Some(number) = refusal(start, window.len() as u64, mode, root, request) {
+pub fn request(memory: &mut Memory, mode: u64, root: u64, request: &Request) -> Answer {
+    if let Some(number) = refusal(memory, mode, root, request) {
         return Answer::Refused(number);
     }
-    let memory = Memory {
-        start,
-        bytes: window,
-    };
-    match translate(memory, mode, root, request) {
+    let found = translate(usual(memory, root), mode, root, request);
+    if found.is_err_and(|fault| fault & LOAD != 0) {
+        return request_in_both(memory, mode, root, request);
+    }
+    answer(memory, request, found)
+}
+
+/// A request whose tables aren't all in the usual window.
+#[cold]
+#[inline(never)]
+fn request_in_both(memory: &mut Memory, mode: u64, root: u64, request: &Request) -> Answer {
+    let both = Both(One::of(&memory.first), One::of(&memory.second));
+    let found = translate(both, mode, root, request);
+    answer(memory, request, found)
+}
+
+/// What a request's translation leads to.
+#[inline(always)]
+fn answer(memory: &mut Memory, request: &Request, found: Result<Found, Fault>) -> Answer {
+    match found {
         Ok(Found::Translated(address)) => Answer::Translated(address),
         Ok(Found::Redirected(address)) => Answer::Redirected(address),
-        Ok(Found::Record(first, second)) => record(start, window, request, first, second),
+        Ok(Found::Record(first, second)) => record(memory, request, first, second),
         Err(fault) => Answer::Fault {
             cause: fault & 0xFFFF_FFFF,
-            stage: STAGES[(fault >> 32) as usize % 5],
+            stage: STAGES[(fault >> 32 & 7) as usize % 5],
         },
     }
 }
 
 /// Takes an interrupt of a file.
 #[inline(never)]
-pub fn take(start: u64, window: &mut [u8], file: u64, identity: u64) -> Answer {
-    let length = window.len() as u64;
-    if bad_window(start, length) {
-        return Answer::Refused(2001);
+pub fn take(memory: &mut Memory, file: u64, identity: u64) -> Answer {
+    if let Some(number) = windows_refusal(memory) {
+        return Answer::Refused(number);
     }
-    let offset = file.wrapping_sub(start);
-    if !file.is_multiple_of(512) || offset >= length {
+    if !file.is_multiple_of(512) {
         return Answer::Refused(2008);
     }
+    let Some(bytes) = bytes_from(memory, file) else {
+        return Answer::Refused(2008);
+    };
     if identity > 2_047 {
         return Answer::Refused(2009);
     }
-    let Some(byte) = window.get_mut(byte_of(offset, identity)) else {
+    let Some(byte) = bytes.get_mut(byte_of(identity)) else {
         return Answer::Refused(2008);
     };
     let bit = 1 << (identity % 8);
@@ -365,21 +434,56 @@ pub fn take(start: u64, window: &mut [u8], file: u64, identity: u64) -> Answer {
     Answer::Taken(pending)
 }
 
-/// The index of the byte that holds an identity's pending bit.
-#[inline]
-fn byte_of(file: u64, identity: u64) -> usize {
-    (file + identity / 64 * 16 + identity % 64 / 8) as usize
+/// The bytes of the window that holds a file, from the file on. Files lie on 512 bytes and windows are
+/// whole pages: a file lies inside whole or not at all.
+#[inline(always)]
+fn bytes_from(memory: &mut Memory, file: u64) -> Option<&mut [u8]> {
+    let Memory { first, second } = memory;
+    let distance = file.wrapping_sub(first.start);
+    if distance < first.bytes.len() as u64 {
+        return first.bytes.get_mut(distance as usize..);
+    }
+    let distance = file.wrapping_sub(second.start);
+    if distance < second.bytes.len() as u64 {
+        return second.bytes.get_mut(distance as usize..);
+    }
+    None
 }
 
+/// The place in a file of the byte that holds an identity's pending bit.
 #[inline]
-fn bad_window(start: u64, length: u64) -> bool {
-    !(start | length).is_multiple_of(4_096) || start > 1 << 56 || length > (1 << 56) - start
+fn byte_of(identity: u64) -> usize {
+    (identity / 64 * 16 + identity % 64 / 8) as usize
 }
 
-#[inline]
-fn refusal(start: u64, length: u64, mode: u64, root: u64, request: &Request) -> Option<u64> {
-    if bad_window(start, length) {
+/// The refusals of both windows, 2001 and 2011.
+#[inline(always)]
+fn windows_refusal(memory: &Memory) -> Option<u64> {
+    const TOP: u64 = 1 << 56;
+    let [first, second] = [&memory.first, &memory.second];
+    let (start, length) = (first.start, first.bytes.len() as u64);
+    let (other_start, other_length) = (second.start, second.bytes.len() as u64);
+    // A length is below 2^63: an end that wraps has a start above the top.
+    let (end, other_end) = (
+        start.wrapping_add(length),
+        other_start.wrapping_add(other_length),
+    );
+    let whole = (start | length | other_start | other_length).is_multiple_of(4_096);
+    let low = start <= TOP && end <= TOP && other_start <= TOP && other_end <= TOP;
+    if !whole || !low {
         return Some(2001);
+    }
+    // The greater start is below the lesser end: never where one is empty.
+    if start.max(other_start) < end.min(other_end) {
+        return Some(2011);
+    }
+    None
+}
+
+#[inline]
+fn refusal(memory: &Memory, mode: u64, root: u64, request: &Request) -> Option<u64> {
+    if let Some(number) = windows_refusal(memory) {
+        return Some(number);
     }
     if mode > 4 || root >> 44 != 0 {
         return Some(2002);
@@ -399,6 +503,7 @@ fn refusal(start: u64, length: u64, mode: u64, root: u64, request: &Request) -> 
 }
 
 /// Where a request leads.
+#[derive(Clone, Copy)]
 enum Found {
     Translated(u64),
     Redirected(u64),
@@ -406,7 +511,7 @@ enum Found {
 }
 
 #[inline]
-fn translate(memory: Memory, mode: u64, root: u64, request: &Request) -> Result<Found, Fault> {
+fn translate(memory: impl Tabled, mode: u64, root: u64, request: &Request) -> Result<Found, Fault> {
     if mode <= 1 {
         if mode == 0 {
             return Err(fault(256, Stage::Directory));
@@ -440,7 +545,7 @@ fn translate(memory: Memory, mode: u64, root: u64, request: &Request) -> Result<
     }
     match memory.second_stage(second, address, needs(request.access)) {
         Ok(address) => Ok(Found::Translated(address)),
-        Err(Broken::Load) => Err(access_fault(request.access, Stage::Second)),
+        Err(Broken::Load) => Err(LOAD | access_fault(request.access, Stage::Second)),
         Err(Broken::Entry) => Err(guest_page_fault(request.access)),
     }
 }
@@ -484,7 +589,12 @@ fn non_leaf(entry: u64, invalid: Fault, misconfigured: Fault) -> Result<u64, Fau
 }
 
 #[inline]
-fn device_context(memory: Memory, levels: u64, root: u64, device: u64) -> Result<[u64; 8], Fault> {
+fn device_context(
+    memory: impl Tabled,
+    levels: u64,
+    root: u64,
+    device: u64,
+) -> Result<[u64; 8], Fault> {
     let mut table = root;
     match levels {
         1 if device >> 6 != 0 => return Err(DISALLOWED),
@@ -531,7 +641,7 @@ fn misconfigured(context: &[u64; 8]) -> bool {
 
 /// The iosatp of a request under PDTV = 1; a Bare one has mode 0.
 fn process_first_stage(
-    memory: Memory,
+    memory: impl Tabled,
     tc: u64,
     pdtp: u64,
     second: Second,
@@ -571,7 +681,7 @@ fn process_first_stage(
 
 /// The iosatp of a process context, with ANY_U where SUM opens user pages to the request.
 #[inline]
-fn process_context(memory: Memory, place: u64, request: &Request) -> Result<u64, Fault> {
+fn process_context(memory: impl Tabled, place: u64, request: &Request) -> Result<u64, Fault> {
     let [ta, fsc] = memory.load_all(place).ok_or(PDT_LOAD)?;
     if ta & V == 0 {
         return Err(PDT_INVALID);
@@ -602,7 +712,7 @@ impl From<Broken> for FirstBroken {
 /// The device's address, by the first stage.
 #[inline]
 fn first_stage(
-    memory: Memory,
+    memory: impl Tabled,
     iosatp: u64,
     second: Second,
     request: &Request,
@@ -620,9 +730,9 @@ fn first_stage(
     };
     match memory.first_leaf(tables, second, request.address, needs) {
         Ok(leaf) => Ok(leaf.target(request.address)),
-        Err(FirstBroken::Own(Broken::Load)) => Err(access_fault(access, Stage::First)),
+        Err(FirstBroken::Own(Broken::Load)) => Err(LOAD | access_fault(access, Stage::First)),
         Err(FirstBroken::Own(Broken::Entry)) => Err(page_fault(access)),
-        Err(FirstBroken::Guest(Broken::Load)) => Err(access_fault(access, Stage::Second)),
+        Err(FirstBroken::Guest(Broken::Load)) => Err(LOAD | access_fault(access, Stage::Second)),
         Err(FirstBroken::Guest(Broken::Entry)) => Err(guest_page_fault(access)),
     }
 }
@@ -647,7 +757,7 @@ fn pack(value: u64, mask: u64) -> u64 {
 /// A message, by its table.
 #[inline]
 fn message(
-    memory: Memory,
+    memory: impl Tabled,
     msiptp: u64,
     mask: u64,
     address: u64,
@@ -679,7 +789,7 @@ fn message(
 
 /// A message under an MRIF entry: stored, discarded or refused.
 #[inline]
-fn record(start: u64, window: &mut [u8], request: &Request, first: u64, second: u64) -> Answer {
+fn record(memory: &mut Memory, request: &Request, first: u64, second: u64) -> Answer {
     let identity = match request.address % 4_096 {
         0 => u64::from(request.value),
         4 => u64::from(request.value.swap_bytes()),
@@ -689,12 +799,8 @@ fn record(start: u64, window: &mut [u8], request: &Request, first: u64, second: 
         return Answer::Discarded;
     }
     let file = (first >> 7 & ((1 << 47) - 1)) << 9;
-    let offset = file.wrapping_sub(start);
-    // Files lie on 512 bytes and the window is whole pages: a file lies inside whole or not at all.
-    if offset >= window.len() as u64 {
-        return Answer::Refused(2007);
-    }
-    let Some(byte) = window.get_mut(byte_of(offset, identity)) else {
+    let bytes = bytes_from(memory, file);
+    let Some(byte) = bytes.and_then(|bytes| bytes.get_mut(byte_of(identity))) else {
         return Answer::Refused(2007);
     };
     *byte |= 1 << (identity % 8);

@@ -1,12 +1,12 @@
 //! The programs under measurement, each called in the same way.
 
-use crate::call::{Call, Numbers, Settings, PROCESS_GIVEN, SUPERVISOR};
+use crate::call::{Call, Memory, Numbers, Settings, PROCESS_GIVEN, SUPERVISOR};
 use crate::plain;
 use crate::proved::{now, Raw};
 
 pub trait Program {
-    fn request(settings: &Settings, window: &mut [u8], call: &Call) -> Numbers;
-    fn take(start: u64, window: &mut [u8], file: u64, identity: u64) -> Numbers;
+    fn request(memory: &mut Memory, settings: &Settings, call: &Call) -> Numbers;
+    fn take(memory: &mut Memory, file: u64, identity: u64) -> Numbers;
 }
 
 /// The proved library of this tree.
@@ -33,32 +33,32 @@ fn raw(call: &Call) -> Raw {
 
 impl Program for Proved {
     #[inline]
-    fn request(settings: &Settings, window: &mut [u8], call: &Call) -> Numbers {
-        now::request(settings, window, &raw(call))
+    fn request(memory: &mut Memory, settings: &Settings, call: &Call) -> Numbers {
+        now::request(memory, settings, &raw(call))
     }
 
     #[inline]
-    fn take(start: u64, window: &mut [u8], file: u64, identity: u64) -> Numbers {
-        now::take(start, window, file, identity)
+    fn take(memory: &mut Memory, file: u64, identity: u64) -> Numbers {
+        now::take(memory, file, identity)
     }
 }
 
 #[cfg(before)]
 impl Program for Before {
     #[inline]
-    fn request(settings: &Settings, window: &mut [u8], call: &Call) -> Numbers {
-        crate::proved::before::request(settings, window, &raw(call))
+    fn request(memory: &mut Memory, settings: &Settings, call: &Call) -> Numbers {
+        crate::proved::before::request(memory, settings, &raw(call))
     }
 
     #[inline]
-    fn take(start: u64, window: &mut [u8], file: u64, identity: u64) -> Numbers {
-        crate::proved::before::take(start, window, file, identity)
+    fn take(memory: &mut Memory, file: u64, identity: u64) -> Numbers {
+        crate::proved::before::take(memory, file, identity)
     }
 }
 
 impl Program for Plain {
     #[inline]
-    fn request(settings: &Settings, window: &mut [u8], call: &Call) -> Numbers {
+    fn request(memory: &mut Memory, settings: &Settings, call: &Call) -> Numbers {
         let request = plain::Request {
             device: u64::from(call.device),
             process: (call.flags & PROCESS_GIVEN != 0).then_some(u64::from(call.process)),
@@ -68,12 +68,11 @@ impl Program for Plain {
             length: u64::from(call.length),
             value: call.value,
         };
-        let Settings { start, mode, root } = *settings;
-        plain::request(start, window, mode, root, &request).numbers()
+        plain::request(memory, settings.mode, settings.root, &request).numbers()
     }
 
     #[inline]
-    fn take(start: u64, window: &mut [u8], file: u64, identity: u64) -> Numbers {
-        plain::take(start, window, file, identity).numbers()
+    fn take(memory: &mut Memory, file: u64, identity: u64) -> Numbers {
+        plain::take(memory, file, identity).numbers()
     }
 }

@@ -12,12 +12,111 @@ pub struct Raw {
     pub value: u32,
 }
 
-/// The functions of one archive, by their names in it.
-macro_rules! archive {
+/// The functions of an archive over two windows, by their names in it.
+macro_rules! two_windows {
     ($module:ident, $request:literal, $take:literal) => {
         pub mod $module {
             use super::Raw;
-            use crate::call::{Numbers, Settings};
+            use crate::call::{Memory, Numbers, Settings};
+
+            extern "C" {
+                #[link_name = $request]
+                fn archive_request(
+                    first_start: u64,
+                    first: *mut u8,
+                    first_len: usize,
+                    second_start: u64,
+                    second: *mut u8,
+                    second_len: usize,
+                    mode: u64,
+                    root: u64,
+                    device: u64,
+                    process: u64,
+                    flags: u64,
+                    access: u64,
+                    address: u64,
+                    length: u64,
+                    value: u32,
+                    out: *mut u64,
+                    out_len: usize,
+                ) -> u64;
+
+                #[link_name = $take]
+                fn archive_take(
+                    first_start: u64,
+                    first: *mut u8,
+                    first_len: usize,
+                    second_start: u64,
+                    second: *mut u8,
+                    second_len: usize,
+                    file: u64,
+                    identity: u64,
+                    out: *mut u64,
+                    out_len: usize,
+                ) -> u64;
+            }
+
+            #[inline]
+            pub fn request(memory: &mut Memory, settings: &Settings, raw: &Raw) -> Numbers {
+                let Memory { first, second } = memory;
+                let mut out = [0; 5];
+                // Sound: the buffers are lent whole, with their lengths, and the borrows keep them apart.
+                unsafe {
+                    archive_request(
+                        first.start,
+                        first.bytes.as_mut_ptr(),
+                        first.bytes.len(),
+                        second.start,
+                        second.bytes.as_mut_ptr(),
+                        second.bytes.len(),
+                        settings.mode,
+                        settings.root,
+                        raw.device,
+                        raw.process,
+                        raw.flags,
+                        raw.access,
+                        raw.address,
+                        raw.length,
+                        raw.value,
+                        out.as_mut_ptr(),
+                        out.len(),
+                    );
+                }
+                out
+            }
+
+            #[inline]
+            pub fn take(memory: &mut Memory, file: u64, identity: u64) -> Numbers {
+                let Memory { first, second } = memory;
+                let mut out = [0; 5];
+                // Sound: as above.
+                unsafe {
+                    archive_take(
+                        first.start,
+                        first.bytes.as_mut_ptr(),
+                        first.bytes.len(),
+                        second.start,
+                        second.bytes.as_mut_ptr(),
+                        second.bytes.len(),
+                        file,
+                        identity,
+                        out.as_mut_ptr(),
+                        out.len(),
+                    );
+                }
+                out
+            }
+        }
+    };
+}
+
+/// The functions of an archive from before there were two windows: over the first, the second not given.
+#[cfg(before_windows = "one")]
+macro_rules! one_window {
+    ($module:ident, $request:literal, $take:literal) => {
+        pub mod $module {
+            use super::Raw;
+            use crate::call::{Memory, Numbers, Settings};
 
             extern "C" {
                 #[link_name = $request]
@@ -51,14 +150,15 @@ macro_rules! archive {
             }
 
             #[inline]
-            pub fn request(settings: &Settings, window: &mut [u8], raw: &Raw) -> Numbers {
+            pub fn request(memory: &mut Memory, settings: &Settings, raw: &Raw) -> Numbers {
+                let window = &mut memory.first;
                 let mut out = [0; 5];
                 // Sound: both buffers are lent whole, with their lengths, and the borrows keep them apart.
                 unsafe {
                     archive_request(
-                        settings.start,
-                        window.as_mut_ptr(),
-                        window.len(),
+                        window.start,
+                        window.bytes.as_mut_ptr(),
+                        window.bytes.len(),
                         settings.mode,
                         settings.root,
                         raw.device,
@@ -76,14 +176,15 @@ macro_rules! archive {
             }
 
             #[inline]
-            pub fn take(start: u64, window: &mut [u8], file: u64, identity: u64) -> Numbers {
+            pub fn take(memory: &mut Memory, file: u64, identity: u64) -> Numbers {
+                let window = &mut memory.first;
                 let mut out = [0; 5];
                 // Sound: as above.
                 unsafe {
                     archive_take(
-                        start,
-                        window.as_mut_ptr(),
-                        window.len(),
+                        window.start,
+                        window.bytes.as_mut_ptr(),
+                        window.bytes.len(),
                         file,
                         identity,
                         out.as_mut_ptr(),
@@ -96,6 +197,8 @@ macro_rules! archive {
     };
 }
 
-archive!(now, "yasmurekh_request", "yasmurekh_take");
-#[cfg(before)]
-archive!(before, "before_yasmurekh_request", "before_yasmurekh_take");
+two_windows!(now, "yasmurekh_request", "yasmurekh_take");
+#[cfg(before_windows = "two")]
+two_windows!(before, "before_yasmurekh_request", "before_yasmurekh_take");
+#[cfg(before_windows = "one")]
+one_window!(before, "before_yasmurekh_request", "before_yasmurekh_take");

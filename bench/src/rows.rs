@@ -2,7 +2,7 @@
 
 use crate::call::{Call, PROCESS_GIVEN, SUPERVISOR};
 use crate::plain::Access;
-use crate::tables::{device_data, guest_data, process_id, size, Plan, World, MESSAGES};
+use crate::tables::{device_data, guest_data, process_id, size, Places, Plan, World, MESSAGES};
 use yasmurekh_reference::random::Random;
 
 /// What a row's calls are.
@@ -76,12 +76,23 @@ fn message_call(random: &mut Random, world: &World) -> Call {
     Call::write(device, page, identity)
 }
 
+/// What a row's name says of the windows.
+fn suffix(places: Places) -> &'static str {
+    match places {
+        Places::First => "",
+        Places::Second => "; all in the second window",
+        Places::FilesSecond => "; tables in the first window, files in the second",
+        Places::FilesFirst => "; files in the first window, tables in the second",
+        Places::RootFirst => "; directory root in the first window, other tables in the second",
+    }
+}
+
 fn row(name: &str, plan: Plan, answers: &'static [u64]) -> Row {
     let world = World::new(plan);
     let mut random = random();
     let calls = (0..CALLS).map(|_| data_call(&mut random, &world)).collect();
     Row {
-        name: name.to_string(),
+        name: format!("{name}{}", suffix(plan.places)),
         kind: Kind::Requests,
         world,
         calls,
@@ -90,8 +101,9 @@ fn row(name: &str, plan: Plan, answers: &'static [u64]) -> Row {
     }
 }
 
-fn messages(name: &str, mask: u64, first: Option<u32>) -> Row {
+fn messages(name: &str, mask: u64, first: Option<u32>, places: Places) -> Row {
     let plan = Plan {
+        places,
         mask: Some(mask),
         first,
         ..Plan::default()
@@ -118,23 +130,30 @@ fn change_entries(row: &mut Row, first: u64) {
 const FOUR_ONES: u64 = 0xF;
 
 fn redirected() -> Row {
-    let mut row = messages("redirected message, both stages", FOUR_ONES, Some(0));
+    let name = "redirected message, both stages";
+    let mut row = messages(name, FOUR_ONES, Some(0), Places::First);
     change_entries(&mut row, 0xA00_0407);
     row.answers = &[1];
     row
 }
 
 fn message_fault() -> Row {
-    let mut row = messages("fault: message table (262)", FOUR_ONES, Some(0));
+    let name = "fault: message table (262)";
+    let mut row = messages(name, FOUR_ONES, Some(0), Places::First);
     change_entries(&mut row, 2);
     row.answers = &[4];
     row.number = Some(262);
     row
 }
 
-fn file_outside() -> Row {
-    let name = "refusal 2007: file outside the window, last of all";
-    let mut row = messages(name, FOUR_ONES, Some(0));
+fn stored(places: Places) -> Row {
+    let name = "stored, both stages, mask of 8 ones";
+    messages(name, 0xFF, Some(0), places)
+}
+
+fn file_outside(places: Places) -> Row {
+    let name = "refusal 2007: file outside the windows, last of all";
+    let mut row = messages(name, FOUR_ONES, Some(0), places);
     change_entries(&mut row, 0x1000_0000 >> 2 | 3);
     row.answers = &[5];
     row.number = Some(2007);
@@ -165,8 +184,9 @@ fn fault(name: &str, plan: Plan, number: u64, change: fn(&mut Call, &Plan)) -> R
     row
 }
 
-fn processes() -> Plan {
+fn processes(places: Places) -> Plan {
     Plan {
+        places,
         devices: 2,
         processes: 4,
         ..Plan::default()
@@ -176,7 +196,7 @@ fn processes() -> Plan {
 /// Supervisor requests onto pages with U = 1.
 fn by_sum() -> Row {
     let name = "PD20 and both stages, supervisor under SUM = 1";
-    let mut row = row(name, processes(), &[0]);
+    let mut row = row(name, processes(Places::First), &[0]);
     for call in &mut row.calls {
         call.flags |= SUPERVISOR;
     }
@@ -191,7 +211,7 @@ fn faults() -> Vec<Row> {
         }),
         fault(
             "fault: process directory (266), PD20 under the second stage",
-            processes(),
+            processes(Places::First),
             266,
             |call, _| call.process ^= 0x80,
         ),
@@ -211,8 +231,9 @@ fn faults() -> Vec<Row> {
     ]
 }
 
-fn takes() -> Row {
+fn takes(places: Places) -> Row {
     let plan = Plan {
+        places,
         mask: Some(FOUR_ONES),
         ..Plan::default()
     };
@@ -227,8 +248,9 @@ fn takes() -> Row {
 }
 
 /// Req 11: 80 percent translations under both stages, 20 percent stored.
-fn mix() -> Row {
+fn mix(places: Places) -> Row {
     let plan = Plan {
+        places,
         mask: Some(0xFF),
         ..Plan::default()
     };
@@ -266,16 +288,22 @@ const MASKS: [(&str, u64); 10] = [
 ];
 
 fn masks() -> impl Iterator<Item = Row> {
-    MASKS
-        .into_iter()
-        .map(|(ones, mask)| messages(&format!("stored, mask of {ones}"), mask, None))
+    MASKS.into_iter().map(|(ones, mask)| {
+        messages(
+            &format!("stored, mask of {ones}"),
+            mask,
+            None,
+            Places::First,
+        )
+    })
 }
 
 /// Both stages by schemes of one mode, with pages of one level in each.
-fn both_stages(mode: u64, level: u32, pages: u64) -> Row {
+fn both_stages(mode: u64, level: u32, pages: u64, places: Places) -> Row {
     let schemes = ["Sv39 on Sv39x4", "Sv48 on Sv48x4", "Sv57 on Sv57x4"][mode as usize - 8];
     let size = ["4 KiB", "2 MiB", "1 GiB", "512 GiB", "256 TiB"][level as usize];
     let plan = Plan {
+        places,
         mode,
         first: Some(level),
         second: Some(level),
@@ -289,33 +317,79 @@ fn both_stages(mode: u64, level: u32, pages: u64) -> Row {
     )
 }
 
-/// The rows of the main table.
-pub fn main_rows() -> Vec<Row> {
-    let plan = |first, second| Plan {
+/// One stage alone, or both.
+fn stages(name: &str, first: Option<u32>, second: Option<u32>, places: Places) -> Row {
+    let plan = Plan {
+        places,
         first,
         second,
         ..Plan::default()
     };
-    let mut rows = vec![
-        mix(),
-        both_stages(8, 0, 64),
-        both_stages(8, 1, 64),
-        both_stages(8, 2, 8),
-        both_stages(9, 0, 64),
-        both_stages(9, 3, 8),
-        both_stages(10, 0, 64),
-        both_stages(10, 4, 8),
-        row("first stage only, 4 KiB", plan(Some(0), None), &[0]),
-        row("second stage only, 4 KiB", plan(None, Some(0)), &[0]),
-        row("PD20 and both stages, 4 KiB / 4 KiB", processes(), &[0]),
-        by_sum(),
-        messages("stored, both stages, mask of 8 ones", 0xFF, Some(0)),
+    row(name, plan, &[0])
+}
+
+fn first_only(places: Places) -> Row {
+    stages("first stage only, 4 KiB", Some(0), None, places)
+}
+
+fn second_only(places: Places) -> Row {
+    stages("second stage only, 4 KiB", None, Some(0), places)
+}
+
+fn by_process(places: Places) -> Row {
+    let name = "PD20 and both stages, 4 KiB / 4 KiB";
+    row(name, processes(places), &[0])
+}
+
+/// The rows of the main table: all in the first window.
+pub fn main_rows() -> Vec<Row> {
+    let schemes = [
+        (8, 0, 64),
+        (8, 1, 64),
+        (8, 2, 8),
+        (9, 0, 64),
+        (9, 3, 8),
+        (10, 0, 64),
+        (10, 4, 8),
     ];
+    let first = Places::First;
+    let mut rows = vec![mix(first)];
+    rows.extend(schemes.map(|(mode, level, pages)| both_stages(mode, level, pages, first)));
+    rows.extend([
+        first_only(first),
+        second_only(first),
+        by_process(first),
+        by_sum(),
+        stored(first),
+    ]);
     rows.extend(masks());
-    rows.extend([redirected(), refusals(), file_outside()]);
+    rows.extend([redirected(), refusals(), file_outside(first)]);
     rows.append(&mut faults());
-    rows.push(takes());
+    rows.push(takes(first));
     rows
+}
+
+/// The same row with its tables and files in either window; the first of a group has all in the first.
+pub fn place_rows() -> Vec<Vec<Row>> {
+    const ALL: [Places; 5] = [
+        Places::First,
+        Places::Second,
+        Places::FilesSecond,
+        Places::FilesFirst,
+        Places::RootFirst,
+    ];
+    let made: [fn(Places) -> Row; 9] = [
+        mix,
+        |places| both_stages(8, 0, 64, places),
+        |places| both_stages(10, 0, 64, places),
+        first_only,
+        second_only,
+        by_process,
+        stored,
+        file_outside,
+        takes,
+    ];
+    made.map(|row| ALL.map(row).into()).into()
 }
 
 /// The same tables in windows of several sizes.

@@ -1,9 +1,11 @@
-//! Tables for the rows: directories, page tables, message tables and files in one window.
+//! Tables for the rows: directories, page tables, message tables and files in the windows.
 
-use crate::call::Settings;
+use crate::call::{Memory, Settings, Window};
 
-/// The window's start: on 2 MiB, and on 1 MiB for message tables of 2^16 entries.
+/// Where the tables start: on 2 MiB, and on 1 MiB for message tables of 2^16 entries.
 pub const START: u64 = 0x4000_0000;
+/// Where a page starts that isn't among the tables' pages.
+const ELSEWHERE: u64 = 0x8000_0000;
 /// Where guests see the pages of their own tables.
 const GUEST_TABLES: u64 = 0x1000_0000;
 /// Where devices see the messages' pages.
@@ -32,10 +34,33 @@ const USER_LEAF: u64 = 0xDF;
 /// V, ENS, SUM of a process context: supervisors may use the user pages.
 const PROCESS: u64 = 7;
 
+/// Which window holds what.
+#[derive(Clone, Copy, Debug, PartialEq, Eq)]
+pub enum Places {
+    /// All is in the first window; the second is empty.
+    First,
+    /// All is in the second window; the first is a page with nothing in it.
+    Second,
+    /// The tables are in the first window, the files in the second.
+    FilesSecond,
+    /// The files are in the first window, the tables in the second.
+    FilesFirst,
+    /// The directory's root and the files are in the first window, all other tables in the second.
+    RootFirst,
+}
+
+impl Places {
+    /// Whether the files lie apart from the tables' pages.
+    fn files_apart(self) -> bool {
+        matches!(self, Places::FilesSecond | Places::FilesFirst)
+    }
+}
+
 /// What the tables of a row are to hold.
 #[derive(Clone, Copy, Debug)]
 pub struct Plan {
-    /// Bytes of the window.
+    pub places: Places,
+    /// Bytes of the window with the tables.
     pub window: usize,
     /// Levels of the device directory.
     pub directory: u64,
@@ -56,6 +81,7 @@ pub struct Plan {
 impl Default for Plan {
     fn default() -> Plan {
         Plan {
+            places: Places::First,
             window: 4 << 20,
             directory: 2,
             devices: 8,
@@ -69,11 +95,12 @@ impl Default for Plan {
     }
 }
 
-/// A window with its tables.
+/// Windows with their tables.
 pub struct World {
     pub settings: Settings,
     pub plan: Plan,
-    pub bytes: Vec<u8>,
+    /// The tables' bytes, with the files' where they lie beside them.
+    bytes: Vec<u8>,
     pub devices: Vec<u32>,
     /// The guest pages whose messages are stored, in the order of the entries.
     pub message_pages: Vec<u64>,
@@ -132,16 +159,41 @@ impl World {
         };
         let directory = world.page();
         world.settings = Settings {
-            start: START,
             mode: plan.directory + 1,
             root: directory >> 12,
         };
-        let file_page = world.page();
+        let file_page = match plan.places.files_apart() {
+            true => ELSEWHERE,
+            false => world.page(),
+        };
         world.files = (0..8).map(|file| file_page + 512 * file).collect();
         for number in 0..plan.devices {
             world.add_device(directory, number);
         }
         world
+    }
+
+    /// Both windows, as the plan has them.
+    pub fn memory(&self) -> Memory {
+        let tables = Window {
+            start: START,
+            bytes: self.bytes.clone(),
+        };
+        let page = Window {
+            start: ELSEWHERE,
+            bytes: vec![0; 4_096],
+        };
+        let [first, second] = match self.plan.places {
+            Places::First => [tables, Window::default()],
+            Places::Second | Places::FilesFirst => [page, tables],
+            Places::FilesSecond => [tables, page],
+            // The root's page and the files' are the first two.
+            Places::RootFirst => [(0, 8_192), (8_192, self.bytes.len())].map(|(from, to)| Window {
+                start: START + from as u64,
+                bytes: self.bytes[from..to].to_vec(),
+            }),
+        };
+        Memory { first, second }
     }
 
     fn page(&mut self) -> u64 {

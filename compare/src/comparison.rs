@@ -4,6 +4,7 @@ use std::fmt;
 
 use yasmurekh_reference::generate::{self, Call, List};
 use yasmurekh_reference::ledger::Ledger;
+use yasmurekh_reference::memory::{Memory, Side as Which};
 use yasmurekh_reference::text::{write_answer, write_list};
 use yasmurekh_reference::{Answer, Report};
 
@@ -20,13 +21,8 @@ pub enum Difference {
         library: Answer,
         reference: Answer,
     },
-    /// The answers are the same, and a byte of the window isn't.
-    Byte {
-        call: usize,
-        offset: usize,
-        library: u8,
-        reference: u8,
-    },
+    /// The answers are the same, and a byte of a window isn't.
+    Byte { call: usize, byte: Byte },
     /// The ledger of the library's answers breaks a rule at a call.
     Ledger { call: usize, reason: String },
     /// The ledger of the library's answers doesn't close after the list.
@@ -39,6 +35,49 @@ pub enum Difference {
     },
     /// After the list, the reported count of a file isn't the ledger's number of waiting marks.
     Count { file: u64, count: u64, ledger: u64 },
+    /// After the list, a report of a file changed a byte.
+    Reported { file: u64, byte: Byte },
+}
+
+/// A byte in which the two sides' windows differ.
+#[derive(Clone, Copy, Debug, PartialEq, Eq)]
+pub struct Byte {
+    pub window: Which,
+    pub offset: usize,
+    pub library: u8,
+    pub reference: u8,
+}
+
+impl Byte {
+    /// The first byte in which they differ; both have the same windows.
+    fn first(library: &Memory, reference: &Memory) -> Option<Byte> {
+        Which::ALL.iter().copied().find_map(|window| {
+            let [ours, theirs] = [library, reference].map(|memory| &memory.window(window).bytes);
+            let offset = ours
+                .iter()
+                .zip(theirs)
+                .position(|(left, right)| left != right)?;
+            Some(Byte {
+                window,
+                offset,
+                library: ours[offset],
+                reference: theirs[offset],
+            })
+        })
+    }
+}
+
+impl fmt::Display for Byte {
+    fn fmt(&self, f: &mut fmt::Formatter<'_>) -> fmt::Result {
+        write!(
+            f,
+            "byte {:#x} of the {} window: library {:#04x}, reference {:#04x}",
+            self.offset,
+            self.window.name(),
+            self.library,
+            self.reference
+        )
+    }
 }
 
 impl Difference {
@@ -65,16 +104,7 @@ impl fmt::Display for Difference {
                 let reference = write_answer(*reference);
                 write!(f, "call {call}: library {library}, reference {reference}")
             }
-            Difference::Byte {
-                call,
-                offset,
-                library,
-                reference,
-            } => write!(
-                f,
-                "call {call}: byte {offset:#x} of the window: library {library:#04x}, \
-                 reference {reference:#04x}"
-            ),
+            Difference::Byte { call, byte } => write!(f, "call {call}: {byte}"),
             Difference::Ledger { call, reason } => write!(f, "call {call}: ledger: {reason}"),
             Difference::Close { reason } => write!(f, "after the list: ledger: {reason}"),
             Difference::Report {
@@ -93,6 +123,9 @@ impl fmt::Display for Difference {
                 f,
                 "after the list: report of {file}: count {count}, ledger {ledger}"
             ),
+            Difference::Reported { file, byte } => {
+                write!(f, "after the list: report of {file}: {byte}")
+            }
         }
     }
 }
@@ -126,8 +159,8 @@ fn write_report_difference(
 pub struct Comparison<L, R> {
     pub library: L,
     pub reference: R,
-    library_window: Vec<u8>,
-    reference_window: Vec<u8>,
+    library_memory: Memory,
+    reference_memory: Memory,
     files: Vec<u64>,
 }
 
@@ -136,8 +169,8 @@ impl<L: Side, R: Side> Comparison<L, R> {
         Comparison {
             library,
             reference,
-            library_window: Vec::new(),
-            reference_window: Vec::new(),
+            library_memory: Memory::default(),
+            reference_memory: Memory::default(),
             files: Vec::new(),
         }
     }
@@ -145,36 +178,30 @@ impl<L: Side, R: Side> Comparison<L, R> {
     /// Runs a list through both sides; gives the number of reports compared.
     ///
     /// After each call the answers and all bytes of both windows are compared and the ledger is fed
-    /// with the library's answer. After the list the ledger is closed on the library's window, and
+    /// with the library's answer. After the list the ledger is closed on the library's windows, and
     /// each file that a take or a store named is reported by both sides.
     pub fn list(&mut self, list: &List) -> Result<u64, Difference> {
-        self.library_window.clone_from(&list.window);
-        self.reference_window.clone_from(&list.window);
+        copy(&mut self.library_memory, &list.memory);
+        copy(&mut self.reference_memory, &list.memory);
         self.files.clear();
-        let mut ledger = Ledger::new(list.start, &list.window);
+        let mut ledger = Ledger::new(&list.memory);
         for (number, call) in list.calls.iter().enumerate() {
-            self.call(list.start, number, call, &mut ledger)?;
+            self.call(number, call, &mut ledger)?;
         }
         ledger
-            .close(&self.library_window)
+            .close(&self.library_memory)
             .map_err(|reason| Difference::Close { reason })?;
         self.files.sort_unstable();
         self.files.dedup();
         for place in 0..self.files.len() {
-            self.report(list.start, self.files[place], &ledger)?;
+            self.report(self.files[place], &ledger)?;
         }
         Ok(self.files.len() as u64)
     }
 
-    fn call(
-        &mut self,
-        start: u64,
-        number: usize,
-        call: &Call,
-        ledger: &mut Ledger,
-    ) -> Result<(), Difference> {
-        let library = self.library.call(start, &mut self.library_window, call);
-        let reference = self.reference.call(start, &mut self.reference_window, call);
+    fn call(&mut self, number: usize, call: &Call, ledger: &mut Ledger) -> Result<(), Difference> {
+        let library = self.library.call(&mut self.library_memory, call);
+        let reference = self.reference.call(&mut self.reference_memory, call);
         if library != reference {
             return Err(Difference::Answer {
                 call: number,
@@ -182,8 +209,8 @@ impl<L: Side, R: Side> Comparison<L, R> {
                 reference,
             });
         }
-        if self.library_window != self.reference_window {
-            return Err(self.byte(number));
+        if let Some(byte) = self.byte() {
+            return Err(Difference::Byte { call: number, byte });
         }
         match (call, library) {
             (_, Answer::Stored { file, .. }) => self.files.push(file),
@@ -198,26 +225,25 @@ impl<L: Side, R: Side> Comparison<L, R> {
     }
 
     /// The first byte in which the windows differ.
-    fn byte(&self, call: usize) -> Difference {
-        let pairs = self.library_window.iter().zip(&self.reference_window);
-        let offset = pairs.take_while(|(left, right)| left == right).count();
-        Difference::Byte {
-            call,
-            offset,
-            library: self.library_window[offset],
-            reference: self.reference_window[offset],
+    fn byte(&self) -> Option<Byte> {
+        if self.library_memory == self.reference_memory {
+            return None;
         }
+        Byte::first(&self.library_memory, &self.reference_memory)
     }
 
-    fn report(&mut self, start: u64, file: u64, ledger: &Ledger) -> Result<(), Difference> {
-        let library = self.library.report(start, &self.library_window, file);
-        let reference = self.reference.report(start, &self.reference_window, file);
+    fn report(&mut self, file: u64, ledger: &Ledger) -> Result<(), Difference> {
+        let library = self.library.report(&mut self.library_memory, file);
+        let reference = self.reference.report(&mut self.reference_memory, file);
         if library != reference {
             return Err(Difference::Report {
                 file,
                 library: Box::new(library),
                 reference: Box::new(reference),
             });
+        }
+        if let Some(byte) = self.byte() {
+            return Err(Difference::Reported { file, byte });
         }
         if library.refusal == 0 && library.count != ledger.waiting(file) {
             return Err(Difference::Count {
@@ -227,6 +253,15 @@ impl<L: Side, R: Side> Comparison<L, R> {
             });
         }
         Ok(())
+    }
+}
+
+/// A copy in the room that is there.
+fn copy(to: &mut Memory, from: &Memory) {
+    for &window in Which::ALL {
+        let (to, from) = (to.window_mut(window), from.window(window));
+        to.start = from.start;
+        to.bytes.clone_from(&from.bytes);
     }
 }
 

@@ -1,5 +1,5 @@
-//! The proved library compared with the reference program: call by call, byte by byte of the
-//! window, report by report, with the ledger of each list recomputed from the library's answers; and
+//! The proved library compared with the reference program: call by call, byte by byte of both
+//! windows, report by report, with the ledger of each list recomputed from the library's answers; and
 //! the wired domain call by call and register by register.
 
 #![forbid(unsafe_code)]
@@ -10,7 +10,7 @@ pub mod run;
 pub mod shrink;
 pub mod side;
 
-pub use comparison::{Comparison, Difference};
+pub use comparison::{Byte, Comparison, Difference};
 pub use run::{run, Found, Options, Outcome, Subject};
 pub use shrink::shrink;
 pub use side::{Library, Reference, Side};

@@ -4,6 +4,7 @@ use std::ops::Range;
 
 use yasmurekh_reference::coverage::run_call;
 use yasmurekh_reference::generate::{Call, List};
+use yasmurekh_reference::memory::{Side as Which, Window};
 use yasmurekh_reference::{Access, Answer, Request};
 
 const PAGE: usize = 4_096;
@@ -11,17 +12,22 @@ const PAGE: usize = 4_096;
 /// The smallest list found for which `holds` is true. It must be true of the list given.
 ///
 /// Every step that is kept makes the list smaller: fewer calls; or as many, and fewer requests among
-/// them; or as many of both, and fewer pages; then fewer ones in the window; then smaller fields. So
-/// this ends, when no step is left that can be kept.
+/// them; or as many of both, and fewer pages; then fewer ones in the windows; then smaller fields and
+/// starts. So this ends, when no step is left that can be kept.
 pub fn shrink(list: List, holds: impl FnMut(&List) -> bool) -> List {
     let mut shrinker = Shrinker { list, holds };
     loop {
         let mut smaller = shrinker.drop_calls();
         smaller |= shrinker.start_later();
         smaller |= shrinker.stores_to_takes();
-        smaller |= shrinker.drop_pages();
-        smaller |= shrinker.clear_window();
+        for &window in Which::ALL {
+            smaller |= shrinker.drop_pages(window);
+            smaller |= shrinker.clear_window(window);
+        }
         smaller |= shrinker.simplify_calls();
+        for &window in Which::ALL {
+            smaller |= shrinker.lower_start(window);
+        }
         if !smaller {
             return shrinker.list;
         }
@@ -51,50 +57,61 @@ impl<H: FnMut(&List) -> bool> Shrinker<H> {
         })
     }
 
-    /// Drops first calls, with the window as the reference has it after them.
+    /// Drops first calls, with the windows as the reference has them after those.
     fn start_later(&mut self) -> bool {
         let calls = self.list.calls.len();
         (1..calls).rev().any(|first| {
             self.keep(|list| {
                 for call in list.calls.drain(..first) {
-                    run_call(list.start, &mut list.window, &call, &mut |_| {});
+                    run_call(&mut list.memory, &call, &mut |_| {});
                 }
             })
         })
     }
 
-    /// Puts a take of the same file in the place of a list's first call, a store, with the window
-    /// as the reference has it after that store: for what a report of the file shows.
+    /// Puts a take of the same file in the place of a list's first call, a store, with the windows
+    /// as the reference has them after that store: for what a report of the file shows.
     fn stores_to_takes(&mut self) -> bool {
         let Some(call @ Call::Request { .. }) = self.list.calls.first().copied() else {
             return false;
         };
-        let mut window = self.list.window.clone();
-        let answer = run_call(self.list.start, &mut window, &call, &mut |_| {});
+        let mut memory = self.list.memory.clone();
+        let answer = run_call(&mut memory, &call, &mut |_| {});
         let Answer::Stored { file, .. } = answer else {
             return false;
         };
         self.keep(|list| {
-            list.window = window;
+            list.memory = memory;
             list.calls[0] = Call::Take { file, identity: 0 };
         })
     }
 
-    /// Drops pages at the window's end, then at its start, many at once first.
-    fn drop_pages(&mut self) -> bool {
+    fn window(&self, window: Which) -> &Window {
+        self.list.memory.window(window)
+    }
+
+    /// Keeps a changed window if the list still holds.
+    fn keep_window(&mut self, window: Which, change: impl FnOnce(&mut Window)) -> bool {
+        self.keep(|list| change(list.memory.window_mut(window)))
+    }
+
+    /// Drops pages at a window's end, then at its start, many at once first.
+    fn drop_pages(&mut self, window: Which) -> bool {
         let mut smaller = false;
         for at_end in [true, false] {
-            let mut pages = self.list.window.len() / PAGE;
+            let mut pages = self.window(window).bytes.len() / PAGE;
             while pages > 0 {
                 let bytes = pages * PAGE;
-                let length = self.list.window.len();
-                let start = self.list.start.checked_add(bytes as u64);
+                let length = self.window(window).bytes.len();
+                let start = self.window(window).start.checked_add(bytes as u64);
                 let dropped = match (at_end, start) {
                     _ if length < bytes => false,
-                    (true, _) => self.keep(|list| list.window.truncate(length - bytes)),
-                    (false, Some(start)) => self.keep(|list| {
-                        list.start = start;
-                        list.window.drain(..bytes);
+                    (true, _) => self.keep_window(window, |window| {
+                        window.bytes.truncate(length - bytes);
+                    }),
+                    (false, Some(start)) => self.keep_window(window, |window| {
+                        window.start = start;
+                        window.bytes.drain(..bytes);
                     }),
                     (false, None) => false,
                 };
@@ -107,22 +124,36 @@ impl<H: FnMut(&List) -> bool> Shrinker<H> {
         smaller
     }
 
-    /// Clears the window: pages, then ever smaller pieces, then single bits.
-    fn clear_window(&mut self) -> bool {
+    /// Clears a window: pages, then ever smaller pieces, then single bits.
+    fn clear_window(&mut self, window: Which) -> bool {
         let mut smaller = false;
+        let length = self.window(window).bytes.len();
         for size in [PAGE, 512, 64, 8, 1] {
-            for place in (0..self.list.window.len()).step_by(size) {
-                let end = (place + size).min(self.list.window.len());
-                if self.list.window[place..end].iter().any(|byte| *byte != 0) {
-                    smaller |= self.keep(|list| list.window[place..end].fill(0));
+            for place in (0..length).step_by(size) {
+                let piece = place..(place + size).min(length);
+                let bytes = &self.window(window).bytes[piece.clone()];
+                if bytes.iter().any(|byte| *byte != 0) {
+                    smaller |= self.keep_window(window, |window| window.bytes[piece].fill(0));
                 }
             }
         }
-        for place in 0..self.list.window.len() {
-            let byte = self.list.window[place];
+        for place in 0..length {
+            let byte = self.window(window).bytes[place];
             for bit in (0..8).filter(|bit| byte >> bit & 1 == 1) {
-                smaller |= self.keep(|list| list.window[place] &= !(1 << bit));
+                smaller |= self.keep_window(window, |window| window.bytes[place] &= !(1 << bit));
             }
+        }
+        smaller
+    }
+
+    /// Lets a window start lower; the first lower start that holds is taken, until none does.
+    fn lower_start(&mut self, window: Which) -> bool {
+        let mut smaller = false;
+        while simpler_numbers(self.window(window).start)
+            .into_iter()
+            .any(|start| self.keep_window(window, |window| window.start = start))
+        {
+            smaller = true;
         }
         smaller
     }

@@ -4,12 +4,15 @@ use yasmurekh_reference::coverage::{run_call, Coverage};
 use yasmurekh_reference::generate::Call;
 use yasmurekh_reference::iommu::report_observed;
 use yasmurekh_reference::mark::Mark;
+use yasmurekh_reference::memory::{Memory, Window};
 use yasmurekh_reference::{Access, Answer, Pair, Report, Request, Stage};
 
-/// Something that answers calls over a window that starts at an address.
+/// Something that answers calls over two windows.
 pub trait Side {
-    fn call(&mut self, start: u64, window: &mut [u8], call: &Call) -> Answer;
-    fn report(&mut self, start: u64, window: &[u8], file: u64) -> Report;
+    fn call(&mut self, memory: &mut Memory, call: &Call) -> Answer;
+
+    /// May change nothing; the memory is lent so that it could.
+    fn report(&mut self, memory: &mut Memory, file: u64) -> Report;
 }
 
 /// The proved library, through the Rust crate.
@@ -17,7 +20,8 @@ pub trait Side {
 pub struct Library;
 
 impl Side for Library {
-    fn call(&mut self, start: u64, window: &mut [u8], call: &Call) -> Answer {
+    fn call(&mut self, memory: &mut Memory, call: &Call) -> Answer {
+        let mut memory = lent(memory);
         match call {
             Call::Request {
                 mode,
@@ -26,24 +30,21 @@ impl Side for Library {
                 data,
             } => {
                 let settings = yasmurekh::Settings {
-                    start,
                     mode: yasmurekh::Mode(*mode),
                     root: *root,
                 };
                 let request = request_for_library(request, *data);
-                answer_of_library(yasmurekh::request(&settings, window, &request))
+                answer_of_library(yasmurekh::request(&mut memory, &settings, &request))
             }
-            Call::Take { file, identity } => {
-                match yasmurekh::take(start, window, *file, *identity) {
-                    Ok(pending) => Answer::Taken(pending),
-                    Err(refusal) => Answer::Refused(refusal.number()),
-                }
-            }
+            Call::Take { file, identity } => match yasmurekh::take(&mut memory, *file, *identity) {
+                Ok(pending) => Answer::Taken(pending),
+                Err(refusal) => Answer::Refused(refusal.number()),
+            },
         }
     }
 
-    fn report(&mut self, start: u64, window: &[u8], file: u64) -> Report {
-        match yasmurekh::report(start, window, file) {
+    fn report(&mut self, memory: &mut Memory, file: u64) -> Report {
+        match yasmurekh::report(&lent(memory), file) {
             Ok(report) => Report {
                 refusal: 0,
                 count: report.count,
@@ -58,6 +59,16 @@ impl Side for Library {
                 pairs: [Pair::default(); 32],
             },
         }
+    }
+}
+
+fn lent(memory: &mut Memory) -> yasmurekh::Memory<'_> {
+    fn window(window: &mut Window) -> yasmurekh::Window<'_> {
+        yasmurekh::Window::new(window.start, &mut window.bytes)
+    }
+    yasmurekh::Memory {
+        first: window(&mut memory.first),
+        second: window(&mut memory.second),
     }
 }
 
@@ -124,8 +135,8 @@ impl Reference {
 }
 
 impl Side for Reference {
-    fn call(&mut self, start: u64, window: &mut [u8], call: &Call) -> Answer {
-        let answer = self.observed(|see| run_call(start, window, call, see));
+    fn call(&mut self, memory: &mut Memory, call: &Call) -> Answer {
+        let answer = self.observed(|see| run_call(memory, call, see));
         if let Some(coverage) = &mut self.coverage {
             coverage.calls += 1;
             coverage.answers[answer.numbers()[0] as usize] += 1;
@@ -133,7 +144,7 @@ impl Side for Reference {
         answer
     }
 
-    fn report(&mut self, start: u64, window: &[u8], file: u64) -> Report {
-        self.observed(|see| report_observed(start, window, file, see))
+    fn report(&mut self, memory: &mut Memory, file: u64) -> Report {
+        self.observed(|see| report_observed(memory, file, see))
     }
 }

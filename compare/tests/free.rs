@@ -1,9 +1,12 @@
 //! Lists that don't come from the reference's generator: windows whose pages are tables of any kind
 //! in any order, that point at each other and at themselves, and wholly free numbers.
 
+use std::ops::Range;
+
 use yasmurekh_compare::{Comparison, Library, Reference};
 use yasmurekh_reference::coverage::Coverage;
 use yasmurekh_reference::generate::{Call, List};
+use yasmurekh_reference::memory::{Memory, Window};
 use yasmurekh_reference::random::Random;
 use yasmurekh_reference::text::write_list;
 use yasmurekh_reference::{Access, Request};
@@ -18,28 +21,32 @@ fn any(random: &mut Random) -> u64 {
     }
 }
 
-/// Lists of pages that point anywhere in the window.
+/// Lists of pages that point anywhere in the windows.
 struct Soup {
     random: Random,
-    first_page: u64,
-    pages: u64,
+    /// The page numbers of both windows, those of the first first.
+    pages: Vec<u64>,
+    /// How many of them are in the first window.
+    first: usize,
+    /// The places of the contexts, messages and processes among them.
+    kinds: [usize; 3],
 }
 
 impl Soup {
     fn page(&mut self) -> u64 {
-        self.first_page + self.random.below(self.pages)
+        self.random.pick(&self.pages)
     }
 
-    /// The window's page of this number, mostly.
-    fn mostly(&mut self, number: u64) -> u64 {
+    /// The page of this kind, mostly.
+    fn mostly(&mut self, kind: usize) -> u64 {
         let page = self.page();
         match self.random.chance(70) {
-            true => self.first_page + number,
+            true => self.pages[self.kinds[kind]],
             false => page,
         }
     }
 
-    /// A page number in the window on 16 KiB, mostly.
+    /// A page number in the windows on 16 KiB, mostly.
     fn guest_root(&mut self) -> u64 {
         let page = self.page();
         match self.random.chance(90) {
@@ -98,28 +105,33 @@ impl Soup {
         }
     }
 
-    fn window(&mut self) -> Vec<u8> {
-        let mut window = Vec::new();
-        for page in 0..self.pages {
-            // Contexts, messages and processes first, then anything.
-            let kind = match page {
-                0..=2 => page,
-                _ => self.random.below(6),
+    /// The bytes of the page at this place.
+    fn bytes(&mut self, place: usize) -> Vec<u8> {
+        // Contexts, messages and processes have a page each, at least.
+        let own = self.kinds.iter().position(|page| *page == place);
+        let kind = own.unwrap_or_else(|| self.random.below(6) as usize);
+        let full = self.random.pick(&[50, 100, 100]);
+        let mut bytes = Vec::new();
+        for place in 0..512 {
+            let word = match kind {
+                _ if self.random.below(400) == 0 => self.random.number(),
+                _ if !self.random.chance(full) => 0,
+                0 => self.context_word(place),
+                1 => self.message_word(place),
+                2 => self.process_word(place),
+                _ => self.table_word(),
             };
-            let full = self.random.pick(&[50, 100, 100]);
-            for place in 0..512 {
-                let word = match kind {
-                    _ if self.random.below(400) == 0 => self.random.number(),
-                    _ if !self.random.chance(full) => 0,
-                    0 => self.context_word(place),
-                    1 => self.message_word(place),
-                    2 => self.process_word(place),
-                    _ => self.table_word(),
-                };
-                window.extend_from_slice(&word.to_le_bytes());
-            }
+            bytes.extend_from_slice(&word.to_le_bytes());
         }
-        window
+        bytes
+    }
+
+    /// The window of the pages at these places.
+    fn window(&mut self, places: Range<usize>) -> Window {
+        Window {
+            start: self.pages.get(places.start).map_or(0, |page| page << 12),
+            bytes: places.flat_map(|place| self.bytes(place)).collect(),
+        }
     }
 
     fn address(&mut self) -> u64 {
@@ -162,31 +174,68 @@ impl Soup {
         }
     }
 
-    fn list(index: u64) -> List {
-        let mut random = Random::new(77, index);
-        let mut soup = Soup {
-            first_page: random.pick(&[0, 16, 0x80000, (1 << 44) - 16]),
-            pages: random.between(4, 16),
-            random,
+    /// Pages in a window or in two, which touch or lie apart, in either order.
+    fn new(mut random: Random) -> Soup {
+        let count = random.between(4, 16);
+        let start = random.pick(&[0, 16, 0x80000, (1 << 44) - 32]);
+        let first = random.pick(&[0, 1, count / 2, count / 2, count - 1, count]);
+        let gap = random.pick(&[0, 0, 1, 16]);
+        // The first window's pages, then the second's; or the other way round.
+        let (low, high) = match random.chance(50) {
+            true => (0..first, first..count),
+            false => (first..count, 0..first),
         };
+        let high_start = start + (low.end - low.start) + gap;
+        let mut pages = vec![0; count as usize];
+        for (place, page) in low.zip(start..).chain(high.zip(high_start..)) {
+            pages[place as usize] = page;
+        }
+        let turn = random.below(count) as usize;
+        Soup {
+            random,
+            first: first as usize,
+            kinds: [0, 1, 2].map(|kind| (kind + turn) % pages.len()),
+            pages,
+        }
+    }
+
+    fn list(index: u64) -> List {
+        let mut soup = Soup::new(Random::new(77, index));
+        let first = soup.window(0..soup.first);
+        let second = soup.window(soup.first..soup.pages.len());
         List {
-            start: soup.first_page << 12,
-            window: soup.window(),
+            memory: Memory { first, second },
             calls: (0..200).map(|_| soup.call()).collect(),
         }
+    }
+}
+
+/// A window of free bytes, mostly at a page and near to another address.
+fn free_window(random: &mut Random, near: u64) -> Window {
+    let length = random.pick(&[0, 1, 512, 4_095, 4_096, 4_096, 8_192, 8_192]);
+    let full = random.number() | random.number();
+    let start = match random.chance(75) {
+        true => near,
+        false => any(random),
+    };
+    Window {
+        start,
+        bytes: (0..length).map(|n| (full >> (n % 57)) as u8).collect(),
     }
 }
 
 /// Free numbers over free bytes.
 fn free_list(index: u64) -> List {
     let mut random = Random::new(78, index);
-    let length = random.pick(&[0, 1, 512, 4_095, 4_096, 4_096, 8_192, 8_192]);
-    let full = random.number() | random.number();
+    let near = random.pick(&[0, 4_096, 8_192, 8_192, 12_288]);
+    let memory = Memory {
+        first: free_window(&mut random, 0),
+        second: free_window(&mut random, near),
+    };
     let few = |random: &mut Random, few: u64| match random.chance(75) {
         true => few,
         false => any(random),
     };
-    let start = few(&mut random, 0);
     let mut calls = Vec::new();
     for _ in 0..10 {
         let process = any(&mut random);
@@ -209,11 +258,7 @@ fn free_list(index: u64) -> List {
             identity: any(&mut random),
         });
     }
-    List {
-        start,
-        window: (0..length).map(|n| (full >> (n % 57)) as u8).collect(),
-        calls,
-    }
+    List { memory, calls }
 }
 
 fn compare_lists(lists: impl Iterator<Item = List>) -> Coverage {

@@ -1,10 +1,14 @@
 //! Sides that are wrong on purpose: each is found, made small, printed, and found again from the
 //! printed text.
 
+#[path = "mutants/windows.rs"]
+mod windows;
+
 use yasmurekh_compare::{run, Comparison, Difference, Found, Library, Options, Reference, Side};
 use yasmurekh_reference::coverage::run_call;
 use yasmurekh_reference::generate::{Call, List};
 use yasmurekh_reference::mark::{Asked, Edge, Field, Mark, Setting, UserBit, Walk, Word};
+use yasmurekh_reference::memory::{Memory, Side as Which, Window};
 use yasmurekh_reference::text::read_lists;
 use yasmurekh_reference::types::{guest_page_fault, page_fault};
 use yasmurekh_reference::{report, Access, Answer, Pair, Report, Request, Stage};
@@ -12,24 +16,26 @@ use yasmurekh_reference::{report, Access, Answer, Pair, Report, Request, Stage};
 /// A side with something done to its answers, its windows and its reports.
 struct Mutant<S> {
     side: S,
-    /// Gets the call, the window before it, the window after it, and the answer.
-    call: fn(&Call, &[u8], &mut [u8], Answer) -> Answer,
+    call: Change,
     report: fn(Report) -> Report,
 }
 
+/// Gets the call, the memory before it, the memory after it, and the answer.
+type Change = fn(&Call, &Memory, &mut Memory, Answer) -> Answer;
+
 impl<S: Side> Side for Mutant<S> {
-    fn call(&mut self, start: u64, window: &mut [u8], call: &Call) -> Answer {
-        let before = window.to_vec();
-        let answer = self.side.call(start, window, call);
-        (self.call)(call, &before, window, answer)
+    fn call(&mut self, memory: &mut Memory, call: &Call) -> Answer {
+        let before = memory.clone();
+        let answer = self.side.call(memory, call);
+        (self.call)(call, &before, memory, answer)
     }
 
-    fn report(&mut self, start: u64, window: &[u8], file: u64) -> Report {
-        (self.report)(self.side.report(start, window, file))
+    fn report(&mut self, memory: &mut Memory, file: u64) -> Report {
+        (self.report)(self.side.report(memory, file))
     }
 }
 
-fn same_answer(_: &Call, _: &[u8], _: &mut [u8], answer: Answer) -> Answer {
+fn same_answer(_: &Call, _: &Memory, _: &mut Memory, answer: Answer) -> Answer {
     answer
 }
 
@@ -61,7 +67,7 @@ fn find<L: Side, R: Side>(library: L, reference: R) -> Found {
 }
 
 /// A mutant library against the reference.
-fn find_mutant(call: fn(&Call, &[u8], &mut [u8], Answer) -> Answer) -> Found {
+fn find_mutant(call: Change) -> Found {
     let mutant = Mutant {
         side: Library,
         call,
@@ -70,16 +76,32 @@ fn find_mutant(call: fn(&Call, &[u8], &mut [u8], Answer) -> Answer) -> Found {
     find(mutant, Reference::default())
 }
 
+/// The bytes of both windows.
+fn bytes(list: &List) -> impl Iterator<Item = u8> + '_ {
+    let Memory { first, second } = &list.memory;
+    first.bytes.iter().chain(&second.bytes).copied()
+}
+
 fn ones(list: &List) -> u32 {
-    list.window.iter().map(|byte| byte.count_ones()).sum()
+    bytes(list).map(u8::count_ones).sum()
 }
 
 /// The doublewords that aren't zero.
 fn words(list: &List) -> usize {
-    let words = list.window.chunks(8);
+    let bytes: Vec<u8> = bytes(list).collect();
+    let words = bytes.chunks(8);
     words
         .filter(|word| word.iter().any(|byte| *byte != 0))
         .count()
+}
+
+/// The first byte of the windows that a change changed, and its window.
+fn changed(before: &Memory, after: &Memory) -> Option<(Which, usize)> {
+    Which::ALL.iter().copied().find_map(|which| {
+        let [before, after] = [before, after].map(|memory| &memory.window(which).bytes);
+        let place = (0..before.len()).find(|place| before[*place] != after[*place])?;
+        Some((which, place))
+    })
 }
 
 #[test]
@@ -116,7 +138,7 @@ fn another_cause() {
     assert_eq!(found.smallest_difference, difference);
     // A valid bit and one reserved bit are all that it takes.
     assert_eq!(found.smallest.calls.len(), 1);
-    assert_eq!(found.smallest.window.len(), 4_096);
+    assert_eq!(bytes(&found.smallest).count(), 4_096);
     assert_eq!(ones(&found.smallest), 2);
 }
 
@@ -140,7 +162,9 @@ fn another_stage() {
 #[test]
 fn a_write_without_a_store() {
     let found = find_mutant(|_, _, after, answer| {
-        if let (Answer::Fault { cause: 13, .. }, Some(byte)) = (answer, after.last_mut()) {
+        let Memory { first, second } = after;
+        let last = second.bytes.last_mut().or(first.bytes.last_mut());
+        if let (Answer::Fault { cause: 13, .. }, Some(byte)) = (answer, last) {
             *byte ^= 0x80;
         }
         answer
@@ -157,13 +181,13 @@ fn a_write_without_a_store() {
 fn a_take_that_clears_nothing() {
     let found = find_mutant(|call, before, after, answer| {
         if matches!(call, Call::Take { .. }) {
-            after.copy_from_slice(before);
+            after.clone_from(before);
         }
         answer
     });
     // One take of one pending bit in one page.
     assert!(matches!(found.smallest.calls[..], [Call::Take { .. }]));
-    assert_eq!(found.smallest.window.len(), 4_096);
+    assert_eq!(bytes(&found.smallest).count(), 4_096);
     assert_eq!(ones(&found.smallest), 1);
 }
 
@@ -227,19 +251,24 @@ struct OtherOrder {
     swapped: Option<(Asked, u64, u64)>,
 }
 
-fn broken_window(start: u64, length: usize) -> bool {
-    let whole = start.is_multiple_of(4_096) && length.is_multiple_of(4_096);
-    !whole || u128::from(start) + length as u128 > 1 << 56
+fn broken_window(window: &Window) -> bool {
+    let whole = window.start.is_multiple_of(4_096) && window.bytes.len().is_multiple_of(4_096);
+    !whole || window.end() > 1 << 56
 }
 
-fn broken_file(start: u64, length: usize, file: u64) -> bool {
-    let end = u128::from(start) + length as u128;
-    !file.is_multiple_of(512) || file < start || u128::from(file) + 512 > end
+fn broken_file(memory: &Memory, file: u64) -> bool {
+    !file.is_multiple_of(512) || memory.holder(file, 512).is_none()
+}
+
+/// The checks that all calls begin with, each with whether it is broken.
+fn window_checks(memory: &Memory) -> Vec<(u64, bool)> {
+    let broken = broken_window(&memory.first) || broken_window(&memory.second);
+    vec![(2001, broken), (2011, memory.overlap())]
 }
 
 /// The checks of a call by their numbers, each with whether it is broken.
-fn checks(start: u64, length: usize, call: &Call) -> Vec<(u64, bool)> {
-    let window = (2001, broken_window(start, length));
+fn checks(memory: &Memory, call: &Call) -> Vec<(u64, bool)> {
+    let mut checks = window_checks(memory);
     match call {
         Call::Request {
             mode,
@@ -249,20 +278,27 @@ fn checks(start: u64, length: usize, call: &Call) -> Vec<(u64, bool)> {
         } => {
             let process = request.process_id;
             let room = 4_096 - request.address % 4_096;
-            vec![
-                window,
+            checks.extend([
                 (2002, *mode > 4 || root >> 44 != 0),
                 (2003, request.device_id >> 24 != 0),
                 (2004, process.is_some_and(|process| process >> 20 != 0)),
                 (2005, request.supervisor && process.is_none()),
                 (2006, request.length == 0 || request.length > room),
-            ]
+            ]);
         }
-        Call::Take { file, identity } => vec![
-            window,
-            (2008, broken_file(start, length, *file)),
+        Call::Take { file, identity } => checks.extend([
+            (2008, broken_file(memory, *file)),
             (2009, *identity > 2_047),
-        ],
+        ]),
+    }
+    checks
+}
+
+fn refused_report(refusal: u64) -> Report {
+    Report {
+        refusal,
+        count: 0,
+        pairs: [Pair::default(); 32],
     }
 }
 
@@ -281,29 +317,23 @@ impl OtherOrder {
 }
 
 impl Side for OtherOrder {
-    fn call(&mut self, start: u64, window: &mut [u8], call: &Call) -> Answer {
+    fn call(&mut self, memory: &mut Memory, call: &Call) -> Answer {
         let asked = match call {
             Call::Request { .. } => Asked::Request,
             Call::Take { .. } => Asked::Take,
         };
-        match self.refusal(asked, &checks(start, window.len(), call)) {
+        match self.refusal(asked, &checks(memory, call)) {
             Some(number) => Answer::Refused(number),
-            None => Library.call(start, window, call),
+            None => Library.call(memory, call),
         }
     }
 
-    fn report(&mut self, start: u64, window: &[u8], file: u64) -> Report {
-        let checks = [
-            (2001, broken_window(start, window.len())),
-            (2008, broken_file(start, window.len(), file)),
-        ];
+    fn report(&mut self, memory: &mut Memory, file: u64) -> Report {
+        let mut checks = window_checks(memory);
+        checks.push((2008, broken_file(memory, file)));
         match self.refusal(Asked::Report, &checks) {
-            Some(refusal) => Report {
-                refusal,
-                count: 0,
-                pairs: [Pair::default(); 32],
-            },
-            None => Library.report(start, window, file),
+            Some(refusal) => refused_report(refusal),
+            None => Library.report(memory, file),
         }
     }
 }
@@ -342,8 +372,8 @@ fn two_checks_in_the_other_order() {
         assert_eq!(refusals, [other, first], "{}", mark.name());
         swapped += 1;
     }
-    // Every two of six checks but 2004 and 2005, of which only one can be broken; of three; of two.
-    assert_eq!(swapped, 14 + 3 + 1);
+    // Every two of seven checks but 2004 and 2005, of which only one can be broken; of four; of three.
+    assert_eq!(swapped, 20 + 6 + 3);
 }
 
 /// The reference with another rule of U for supervisors.
@@ -353,17 +383,17 @@ struct OtherRule {
 }
 
 impl Side for OtherRule {
-    fn call(&mut self, start: u64, window: &mut [u8], call: &Call) -> Answer {
-        let before = window.to_vec();
+    fn call(&mut self, memory: &mut Memory, call: &Call) -> Answer {
+        let before = memory.clone();
         let mut changed = None;
-        let answer = run_call(start, window, call, &mut |mark| match mark {
+        let answer = run_call(memory, call, &mut |mark| match mark {
             Mark::User(Walk::First, look) if (self.other)(&look) => changed = Some(look),
             _ => {}
         });
         let Some(look) = changed else {
             return answer;
         };
-        window.copy_from_slice(&before);
+        *memory = before;
         if look.open {
             return Answer::Fault {
                 cause: page_fault(look.access),
@@ -375,11 +405,11 @@ impl Side for OtherRule {
         if let Call::Request { request, .. } = &mut as_user {
             request.supervisor = false;
         }
-        run_call(start, window, &as_user, &mut |_| {})
+        run_call(memory, &as_user, &mut |_| {})
     }
 
-    fn report(&mut self, start: u64, window: &[u8], file: u64) -> Report {
-        report(start, window, file)
+    fn report(&mut self, memory: &mut Memory, file: u64) -> Report {
+        report(memory, file)
     }
 }
 
@@ -445,10 +475,10 @@ struct WrongRule {
 }
 
 impl Side for WrongRule {
-    fn call(&mut self, start: u64, window: &mut [u8], call: &Call) -> Answer {
-        let before = window.to_vec();
+    fn call(&mut self, memory: &mut Memory, call: &Call) -> Answer {
+        let before = memory.clone();
         let mut instead = None;
-        let answer = run_call(start, window, call, &mut |mark| {
+        let answer = run_call(memory, call, &mut |mark| {
             if let Call::Request { request, .. } = call {
                 instead = instead.take().or((self.wrong)(&mark, request));
             }
@@ -456,20 +486,20 @@ impl Side for WrongRule {
         let Some(instead) = instead else {
             return answer;
         };
-        window.copy_from_slice(&before);
+        *memory = before;
         match (instead, *call) {
             (Instead::Answer(other), _) => other,
             (Instead::Address(address), mut other) => {
                 if let Call::Request { request, .. } = &mut other {
                     request.address = address;
                 }
-                run_call(start, window, &other, &mut |_| {})
+                run_call(memory, &other, &mut |_| {})
             }
         }
     }
 
-    fn report(&mut self, start: u64, window: &[u8], file: u64) -> Report {
-        report(start, window, file)
+    fn report(&mut self, memory: &mut Memory, file: u64) -> Report {
+        report(memory, file)
     }
 }
 
@@ -665,7 +695,7 @@ fn other_modes_and_roots() {
 }
 
 /// The same mutation on both sides, so that only the ledger can find it.
-fn find_in_ledger(call: fn(&Call, &[u8], &mut [u8], Answer) -> Answer) -> Found {
+fn find_in_ledger(call: Change) -> Found {
     let library = Mutant {
         side: Library,
         call,
@@ -696,7 +726,7 @@ fn every_take_answered_with_1() {
 fn a_store_that_stores_nothing() {
     let found = find_in_ledger(|_, before, after, answer| {
         if matches!(answer, Answer::Stored { .. }) {
-            after.copy_from_slice(before);
+            after.clone_from(before);
         }
         answer
     });
@@ -710,9 +740,8 @@ fn a_store_that_stores_nothing() {
 fn every_bit_set_at_the_first_store() {
     let found = find_in_ledger(|_, before, after, answer| {
         if matches!(answer, Answer::Stored { .. }) {
-            let changed = (0..before.len()).find(|place| before[*place] != after[*place]);
-            if let Some(place) = changed {
-                after[place] = 0xFF;
+            if let Some((which, place)) = changed(before, after) {
+                after.window_mut(which).bytes[place] = 0xFF;
             }
         }
         answer

@@ -1,7 +1,7 @@
 /*
- * A small use of Yasmurekh from C: one window with tables and interrupt files,
- * a translation under both stages, a message, its take, a refusal and faults; a fan
- * that signals by wire; and the same fan at a controller without message files.
+ * A small use of Yasmurekh from C: tables on chip and interrupt files in main memory, a
+ * window each; a translation under both stages, a message, its take, refusals and faults;
+ * a fan that signals by wire; and the same fan at a controller without message files.
  */
 #include <inttypes.h>
 #include <stdio.h>
@@ -9,37 +9,46 @@
 
 #include "yasmurekh.h"
 
-/* The window: 13 pages of physical memory from 1 GiB on. */
-#define START UINT64_C(0x40000000)
-#define PAGES 13
-#define DIRECTORY (START + 0x0000)
-#define MESSAGES (START + 0x1000)
-#define FILES (START + 0x2000)
-#define SECOND_ROOT (START + 0x4000) /* four pages, on 16 KiB */
-#define SECOND_1 (START + 0x8000)
-#define SECOND_0 (START + 0x9000)
-#define FIRST_ROOT (START + 0xA000)
-#define FIRST_1 (START + 0xB000)
-#define FIRST_0 (START + 0xC000)
+/* The tables: eleven pages on chip. */
+#define CHIP UINT64_C(0x10000000)
+#define SECOND_ROOT (CHIP + 0x0000) /* four pages, on 16 KiB */
+#define SECOND_1 (CHIP + 0x4000)
+#define SECOND_0 (CHIP + 0x5000)
+#define FIRST_ROOT (CHIP + 0x6000)
+#define FIRST_1 (CHIP + 0x7000)
+#define FIRST_0 (CHIP + 0x8000)
+#define DIRECTORY (CHIP + 0x9000)
+#define MESSAGES (CHIP + 0xA000)
+
+/* The interrupt files: a page of main memory, eight files. */
+#define MAIN UINT64_C(0x40000000)
+#define FILE_1 (MAIN + 0x200)
 
 /* What the guest sees: its memory, and the pages of its virtual interrupt files. */
 #define GUEST_MEMORY UINT64_C(0x80000000)
 #define GUEST_FILES UINT64_C(0x28004000)
 
-/* Physical memory outside the window: a buffer of the device, and where notices go. */
+/* Physical memory outside the windows: a buffer of the device, and where notices go. */
 #define BUFFER UINT64_C(0x90005000)
 #define NOTICES UINT64_C(0x48000000)
 
 #define DEVICE 1u
 
-static uint8_t window[PAGES * 4096];
+static uint8_t tables[11 * 4096];
+static uint8_t files[4096];
 
-/* Puts a doubleword at a physical address of the window, little-endian. */
+static const struct yasmurekh_memory memory = {
+    {CHIP, tables, sizeof tables},
+    {MAIN, files, sizeof files},
+};
+static const struct yasmurekh_directory directory = {YASMUREKH_MODE_1LVL, DIRECTORY >> 12};
+
+/* Puts a doubleword at a physical address of the tables, little-endian. */
 static void put(uint64_t address, uint64_t value)
 {
     unsigned i;
     for (i = 0; i < 8; i++)
-        window[address - START + i] = (uint8_t)(value >> (8 * i));
+        tables[address - CHIP + i] = (uint8_t)(value >> (8 * i));
 }
 
 /* A page-table entry, and a directory's: page number in bits 53:10, flags below. */
@@ -91,7 +100,7 @@ static void lay_out(void)
     put(FIRST_0 + 8 * 4, entry(GUEST_MEMORY + 0x6000, USER)); /* not in the second stage */
 
     /* Message entry 2, mode MRIF: the file, then notice 1029 (bit 10 at bit 60). */
-    put(MESSAGES + 16 * 2, (FILES + 0x200) >> 9 << 7 | 3);
+    put(MESSAGES + 16 * 2, FILE_1 >> 9 << 7 | 3);
     put(MESSAGES + 16 * 2 + 8, UINT64_C(1) << 60 | entry(NOTICES, 5));
 }
 
@@ -107,86 +116,117 @@ static const char *stage_name(uint64_t stage)
 }
 
 /* Prints an answer in words. */
-static void show(const char *what, const uint64_t out[YASMUREKH_ANSWER_WORDS])
+static void show(const char *what, struct yasmurekh_answer answer)
 {
-    uint64_t first = out[YASMUREKH_OUT_FIRST];
-
     printf("%s: ", what);
-    switch (out[YASMUREKH_OUT_KIND]) {
+    switch (answer.kind) {
     case YASMUREKH_TRANSLATED:
-        printf("translated to 0x%" PRIx64 "\n", first);
+        printf("translated to 0x%" PRIx64 "\n", answer.first);
         break;
     case YASMUREKH_REDIRECTED:
-        printf("message redirected to 0x%" PRIx64 "\n", first);
+        printf("message redirected to 0x%" PRIx64 "\n", answer.first);
         break;
     case YASMUREKH_STORED:
         printf("message stored in the file at 0x%" PRIx64
                "; write notice %" PRIu64 " to 0x%" PRIx64 "\n",
-               first, out[YASMUREKH_OUT_THIRD], out[YASMUREKH_OUT_SECOND]);
+               answer.first, answer.third, answer.second);
         break;
     case YASMUREKH_DISCARDED:
         printf("message discarded\n");
         break;
     case YASMUREKH_FAULT:
-        printf("fault, cause %" PRIu64 ", found by the %s\n", first,
-               stage_name(out[YASMUREKH_OUT_STAGE]));
+        printf("fault, cause %" PRIu64 ", found by the %s\n", answer.first,
+               stage_name(answer.stage));
         break;
     case YASMUREKH_REFUSED:
-        printf("refused, %" PRIu64 "\n", first);
+        printf("refused, %" PRIu64 "\n", answer.first);
         break;
     default:
-        printf("take made, the interrupt was %s\n", first ? "pending" : "not pending");
+        printf("take made, the interrupt was %s\n", answer.first ? "pending" : "not pending");
         break;
     }
 }
 
-/* A request of a device over the window, without a process_id. */
+/* A request over the two windows, without a process_id. */
 static void request(const char *what, uint64_t device, uint64_t access, uint64_t address,
                     uint64_t length, uint32_t value)
 {
-    uint64_t out[YASMUREKH_ANSWER_WORDS];
+    struct yasmurekh_device_request asked = {device, 0, 0, access, address, length, value};
 
-    yasmurekh_request(START, window, sizeof window, YASMUREKH_MODE_1LVL, DIRECTORY >> 12, device,
-                      0, 0, access, address, length, value, out, YASMUREKH_ANSWER_WORDS);
-    show(what, out);
+    show(what, yasmurekh_memory_request(&memory, &directory, &asked));
 }
 
 static void take(const char *what, uint64_t file, uint64_t identity)
 {
-    uint64_t out[YASMUREKH_ANSWER_WORDS];
-
-    yasmurekh_take(START, window, sizeof window, file, identity, out, YASMUREKH_ANSWER_WORDS);
-    show(what, out);
+    show(what, yasmurekh_memory_take(&memory, file, identity));
 }
 
 /* Prints what is pending in a file. */
 static void report(const char *what, uint64_t file)
 {
-    uint64_t out[YASMUREKH_REPORT_WORDS];
+    struct yasmurekh_file_report report = yasmurekh_memory_report(&memory, file);
     unsigned n;
 
-    yasmurekh_report(START, window, sizeof window, file, out, YASMUREKH_REPORT_WORDS);
-    printf("%s: refusal %" PRIu64 ", pending %" PRIu64, what, out[YASMUREKH_REPORT_REFUSAL],
-           out[YASMUREKH_REPORT_COUNT]);
+    printf("%s: refusal %" PRIu64 ", pending %" PRIu64, what, report.refusal, report.count);
     for (n = 0; n < YASMUREKH_IDENTITIES; n++)
-        if (out[YASMUREKH_REPORT_PENDING(n / 64)] >> n % 64 & 1)
+        if (report.pairs[n / 64].pending >> n % 64 & 1)
             printf(", identity %u", n);
     printf("\n");
 }
 
-/* What holds where a buffer is too short, or the window is empty. */
-static void edges(void)
+/* A write of 38 to file 2, a read of the buffer and a take, over other windows. */
+static void over(const char *what, struct yasmurekh_window first, struct yasmurekh_window second)
+{
+    struct yasmurekh_memory other = {first, second};
+    struct yasmurekh_device_request message = {DEVICE, 0, 0, YASMUREKH_WRITE, 0x2000, 4, 38};
+    struct yasmurekh_device_request read = {DEVICE, 0, 0, YASMUREKH_READ, 0x1234, 8, 0};
+
+    printf("%s:\n", what);
+    show("  write of 38", yasmurekh_memory_request(&other, &directory, &message));
+    show("  read of the buffer", yasmurekh_memory_request(&other, &directory, &read));
+    show("  take of 38", yasmurekh_memory_take(&other, FILE_1, 38));
+}
+
+/* Other windows than these two, and these two in the other order. */
+static void windows(void)
+{
+    const struct yasmurekh_window none = {0, NULL, 0};
+    const struct yasmurekh_window inside = {CHIP + 0x1000, NULL, 0};
+    const struct yasmurekh_window on_tables = {CHIP + 0xA000, files, sizeof files};
+    const struct yasmurekh_window beside_tables = {CHIP + 0xB000, files, sizeof files};
+    const struct yasmurekh_window odd = {MAIN + 0x200, files, sizeof files};
+
+    over("the windows in the other order", memory.second, memory.first);
+    over("tables alone", memory.first, none);
+    over("files alone", none, memory.second);
+    over("an empty window inside the tables", inside, memory.first);
+    over("a window on the tables' last page", memory.first, on_tables);
+    over("a window right after the tables", memory.first, beside_tables);
+    over("a window that starts in a page", memory.first, odd);
+}
+
+/* The raw functions, where a buffer is too short, and with empty windows. */
+static void raw(void)
 {
     uint64_t out[YASMUREKH_ANSWER_WORDS] = {9, 9, 9, 9, 9};
-    uint64_t status = yasmurekh_request(START, window, sizeof window, YASMUREKH_MODE_BARE, 0,
-                                        DEVICE, 0, 0, YASMUREKH_READ, 0x1234, 8, 0, out, 4);
+    uint64_t status;
 
+    status = yasmurekh_request(CHIP, tables, sizeof tables, MAIN, files, sizeof files,
+                               YASMUREKH_MODE_1LVL, DIRECTORY >> 12, DEVICE, 0, 0, YASMUREKH_READ,
+                               0x1234, 8, 0, out, YASMUREKH_ANSWER_WORDS);
+    printf("raw read of the buffer: status %" PRIu64 ", kind %" PRIu64 ", 0x%" PRIx64 "\n", status,
+           out[YASMUREKH_OUT_KIND], out[YASMUREKH_OUT_FIRST]);
+    out[0] = 9;
+    status = yasmurekh_request(CHIP, tables, sizeof tables, MAIN, files, sizeof files,
+                               YASMUREKH_MODE_BARE, 0, DEVICE, 0, 0, YASMUREKH_READ, 0x1234, 8, 0,
+                               out, 4);
     printf("buffer of 4 words: status %" PRIu64 ", first word still %" PRIu64 "\n", status, out[0]);
-    status = yasmurekh_take(START, window, sizeof window, FILES, 37, NULL, 0);
+    status = yasmurekh_take(CHIP, tables, sizeof tables, MAIN, files, sizeof files, FILE_1, 37,
+                            NULL, 0);
     printf("no buffer: status %" PRIu64 "\n", status);
-    yasmurekh_request(START, NULL, 0, YASMUREKH_MODE_1LVL, DIRECTORY >> 12, DEVICE, 0, 0,
+    yasmurekh_request(0, NULL, 0, 0, NULL, 0, YASMUREKH_MODE_1LVL, DIRECTORY >> 12, DEVICE, 0, 0,
                       YASMUREKH_READ, 0x1234, 8, 0, out, YASMUREKH_ANSWER_WORDS);
-    show("empty window", out);
+    show("two empty windows", yasmurekh_answer_of(YASMUREKH_OK, out));
 }
 
 /* The wired domain, at reset: a fan holds the wire of source 7 high while it is stuck. */
@@ -336,28 +376,32 @@ static void without_message_files(void)
 
 int main(void)
 {
-    uint8_t before[sizeof window];
+    uint8_t tables_before[sizeof tables];
+    uint8_t files_before[sizeof files];
 
     lay_out();
+    memcpy(tables_before, tables, sizeof tables);
     request("read of the buffer", DEVICE, YASMUREKH_READ, 0x1234, 8, 0);
     request("write of 37 to file 2", DEVICE, YASMUREKH_WRITE, 0x2000, 4, 37);
-    printf("byte 4 of the file: %d\n", window[FILES + 0x200 + 4 - START]);
+    printf("byte 4 of the file: %d\n", files[FILE_1 + 4 - MAIN]);
     request("write of 2047 to file 2, big-endian", DEVICE, YASMUREKH_WRITE, 0x2004, 4, 0xFF070000);
-    report("report of the file", FILES + 0x200);
-    take("take of 37", FILES + 0x200, 37);
-    take("take of 37 again", FILES + 0x200, 37);
-    report("report of the file", FILES + 0x200);
-    report("report of no file", FILES + 0x201);
+    report("report of the file", FILE_1);
+    take("take of 37", FILE_1, 37);
+    take("take of 37 again", FILE_1, 37);
+    report("report of the file", FILE_1);
+    report("report of no file", FILE_1 + 1);
 
-    memcpy(before, window, sizeof window);
+    memcpy(files_before, files, sizeof files);
     request("read across the page's end", DEVICE, YASMUREKH_READ, 0x1FFC, 8, 0);
     request("read of a page not mapped", DEVICE, YASMUREKH_READ, 0x3000, 8, 0);
     request("write to a guest page not mapped", DEVICE, YASMUREKH_WRITE, 0x4000, 8, 0);
     request("read-for-execute of file 2", DEVICE, YASMUREKH_READ_FOR_EXECUTE, 0x2000, 4, 0);
     request("read by device 2", 2, YASMUREKH_READ, 0x1234, 8, 0);
     request("an access numbered 3", DEVICE, 3, 0x1234, 8, 0);
-    edges();
-    printf("window after these: %s\n", memcmp(before, window, sizeof window) ? "changed" : "unchanged");
+    windows();
+    raw();
+    printf("tables after all: %s\n", memcmp(tables_before, tables, sizeof tables) ? "changed" : "unchanged");
+    printf("files after these: %s\n", memcmp(files_before, files, sizeof files) ? "changed" : "unchanged");
     fan();
     without_message_files();
     return 0;

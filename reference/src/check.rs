@@ -1,5 +1,5 @@
 //! The program's own checks: P1 to P14 of 01, its limits (with those of every scheme), the order of
-//! its refusals, and the cases of the wired domain.
+//! its refusals, the two windows, and the cases of the wired domain.
 
 use crate::aplic;
 use crate::device;
@@ -7,10 +7,12 @@ use crate::generate::Call;
 use crate::iommu::{report, request, take};
 use crate::layout::{leaf, pointer, root_of, Layout, ALL_FLAGS};
 use crate::ledger::Ledger;
+use crate::memory::{Memory, Window};
 use crate::message::{alignment, extract, recognised};
 use crate::process;
 use crate::scheme_check;
 use crate::types::{Access, Answer, Request, Settings, Stage};
+use crate::window_check;
 
 /// One check: its name, and whether it holds.
 #[derive(Clone, Debug)]
@@ -57,7 +59,8 @@ pub fn all() -> Vec<Check> {
     index_cases(&mut checks);
     refusal_order(&mut checks);
     window_limits(&mut checks);
-    take_and_report(&mut checks);
+    takes(&mut checks);
+    take_after_report(&mut checks);
     untranslated(&mut checks);
     scheme_check::all(&mut checks);
     context_bits(&mut checks);
@@ -68,6 +71,7 @@ pub fn all() -> Vec<Check> {
     two_stage_rules(&mut checks);
     message_rules(&mut checks);
     ledger_rules(&mut checks);
+    window_check::all(&mut checks);
     aplic::check::all(&mut checks);
     aplic::direct_check::all(&mut checks);
     checks.made
@@ -79,7 +83,7 @@ pub const MESSAGES: u64 = START + 0x2000;
 pub const FIRST: u64 = START + 0x3000;
 pub const SECOND: u64 = START + 0x4000;
 pub const PROCESSES: u64 = START + 0x8000;
-const GIGA: u64 = 1 << 30;
+pub const GIGA: u64 = 1 << 30;
 const P5_ENTRY: u64 = 0x0A00_0407;
 pub const P6_ENTRY: [u64; 2] = [0x1000_0483, 0x1000_0000_0A00_0005];
 
@@ -112,6 +116,15 @@ pub fn message_context() -> [u64; 8] {
     [1, second, 0, 0, root_of(1, MESSAGES), 3, 0x80004, 0]
 }
 
+/// A first window of so many zero bytes; the second is empty, at 0.
+pub fn one_window(start: u64, length: usize) -> Memory {
+    let bytes = vec![0; length];
+    Memory {
+        first: Window { start, bytes },
+        second: Window::default(),
+    }
+}
+
 /// The same window with entry 2 of the message table.
 fn message_bench(entry: [u64; 2]) -> Layout {
     let mut layout = bench(message_context());
@@ -135,11 +148,10 @@ pub fn plain(access: Access, address: u64) -> Request {
 /// A request under the one-level directory of a bench.
 pub fn run(layout: &mut Layout, asked: &Request, data: u32) -> Answer {
     let settings = Settings {
-        start: layout.start,
         mode: 2,
-        root: layout.start >> 12,
+        root: layout.memory.first.start >> 12,
     };
-    request(&settings, &mut layout.bytes, asked, data)
+    request(&settings, &mut layout.memory, asked, data)
 }
 
 /// P1 to P4.
@@ -163,26 +175,26 @@ fn message_cases(checks: &mut Checks) {
     let mut p6 = message_bench(P6_ENTRY);
     let at0 = plain(Access::Write, 0x8000_6000);
     let at4 = plain(Access::Write, 0x8000_6004);
-    let before = p6.bytes.clone();
+    let before = p6.memory.clone();
     let found = run(&mut p6, &at0, 37);
     checks.line("P6", found, "P6 2 1073746432 671088640 1029");
-    let gained = one_gain(&before, &p6.bytes, 0x1204, 32);
+    let gained = one_gain(&before, &p6.memory, 0x1204, 32);
     checks.holds(
         "P6 byte 4 of the file gains 32, no other byte changes",
         gained,
     );
-    let before = p6.bytes.clone();
+    let before = p6.memory.clone();
     let found = run(&mut p6, &at4, 620_756_992);
     checks.line("P7", found, "P7 2 1073746432 671088640 1029");
     checks.holds(
         "P7 is identity 37 again: no byte changes",
-        before == p6.bytes,
+        before == p6.memory,
     );
     checks.line("P8", run(&mut p6, &at4, 37), "P8 3 0 0 0");
-    let before = p6.bytes.clone();
+    let before = p6.memory.clone();
     let found = run(&mut p6, &at0, 2_047);
     checks.line("P9", found, "P9 2 1073746432 671088640 1029");
-    let gained = one_gain(&before, &p6.bytes, 0x1200 + 503, 128);
+    let gained = one_gain(&before, &p6.memory, 0x1200 + 503, 128);
     checks.holds(
         "P9 byte 503 of the file gains 128, no other byte changes",
         gained,
@@ -194,11 +206,11 @@ fn message_cases(checks: &mut Checks) {
     checks.line("P14", run(&mut p5, &execute, 0), "P14 4 1 0 0");
 }
 
-/// Exactly one byte gains exactly this value.
-fn one_gain(before: &[u8], after: &[u8], place: usize, gain: u8) -> bool {
-    let mut expected = before.to_vec();
-    expected[place] |= gain;
-    before[place] & gain == 0 && expected == after
+/// Exactly one byte of the first window gains exactly this value.
+fn one_gain(before: &Memory, after: &Memory, place: usize, gain: u8) -> bool {
+    let mut expected = before.clone();
+    expected.first.bytes[place] |= gain;
+    before.first.bytes[place] & gain == 0 && expected == *after
 }
 
 /// P11 and P12.
@@ -210,13 +222,12 @@ fn index_cases(checks: &mut Checks) {
     );
     let mut layout = bench([0; 8]);
     let settings = Settings {
-        start: START,
         mode: 3,
         root: START >> 12,
     };
     let mut asked = plain(Access::Read, 0);
     asked.device_id = 0x012345;
-    let found = request(&settings, &mut layout.bytes, &asked, 0);
+    let found = request(&settings, &mut layout.memory, &asked, 0);
     checks.answer("P11 two levels", found, fault(260, Stage::Directory));
     let indices = process::indices(0x2A5C3);
     checks.holds(
@@ -232,9 +243,8 @@ fn index_cases(checks: &mut Checks) {
 
 /// Each refusal is given before all later ones: inputs that break a rule and all after it.
 fn refusal_order(checks: &mut Checks) {
-    let mut bytes = vec![0; 4_096];
+    let mut memory = one_window(1, 4_096);
     let mut settings = Settings {
-        start: 1,
         mode: 5,
         root: 1 << 44,
     };
@@ -246,18 +256,14 @@ fn refusal_order(checks: &mut Checks) {
         address: 4_095,
         length: 2,
     };
+    let found = request(&settings, &mut memory, &asked, 0);
+    checks.answer("breaks 2001 to 2006", found, Answer::Refused(2001));
+    memory.first.start = 0;
     let mut expect = |settings: &Settings, asked: &Request, number: u64, text: &str| {
-        let found = request(settings, &mut bytes, asked, 0);
+        let found = request(settings, &mut memory, asked, 0);
         checks.answer(text, found, Answer::Refused(number));
     };
-    expect(&settings, &asked, 2001, "breaks 2001 to 2006");
-    settings.start = 0;
-    expect(
-        &settings,
-        &asked,
-        2002,
-        "breaks 2002 (mode and root) to 2006",
-    );
+    expect(&settings, &asked, 2002, "breaks 2002 twice, to 2006");
     settings.mode = 2;
     expect(&settings, &asked, 2002, "breaks 2002 (root) to 2006");
     settings.root = 0;
@@ -273,7 +279,7 @@ fn refusal_order(checks: &mut Checks) {
     asked.length = u64::MAX;
     expect(&settings, &asked, 2006, "breaks 2006, length 2^64 - 1");
     asked.length = 1;
-    let found = request(&settings, &mut bytes, &asked, 0);
+    let found = request(&settings, &mut memory, &asked, 0);
     checks.answer("breaks none", found, fault(258, Stage::Directory));
 }
 
@@ -282,12 +288,8 @@ fn window_limits(checks: &mut Checks) {
     let top = 1u64 << 56;
     let asked = plain(Access::Read, 8);
     let ask = |start: u64, length: usize, mode: u64| {
-        let settings = Settings {
-            start,
-            mode,
-            root: 0,
-        };
-        request(&settings, &mut vec![0; length], &asked, 0)
+        let settings = Settings { mode, root: 0 };
+        request(&settings, &mut one_window(start, length), &asked, 0)
     };
     let refused = Answer::Refused(2001);
     let passed = Answer::Translated(8);
@@ -330,12 +332,13 @@ fn window_limits(checks: &mut Checks) {
     checks.answer("context in the last 64 bytes below 2^56", found, passed);
 }
 
-/// Takes and reports: 2001, 2008, 2009 in this order, and what they answer.
-fn take_and_report(checks: &mut Checks) {
-    let mut bytes = vec![0; 8_192];
+/// Takes: 2001, 2008, 2009 in this order.
+fn takes(checks: &mut Checks) {
+    let mut memory = one_window(4_096, 8_192);
     let big = u64::MAX;
     let mut ask = |name: &str, start: u64, file: u64, identity: u64, expected: Answer| {
-        let found = take(start, &mut bytes, file, identity);
+        memory.first.start = start;
+        let found = take(&mut memory, file, identity);
         checks.answer(name, found, expected);
     };
     let refused = Answer::Refused;
@@ -354,9 +357,14 @@ fn take_and_report(checks: &mut Checks) {
         2_047,
         Answer::Taken(false),
     );
-    bytes[8_192 - 512 + 503] = 0xC0;
-    bytes[8_192 - 512 + 511] = 0xFF;
-    let made = report(4_096, &bytes, 11_776);
+}
+
+/// A report, the take of what it shows, and the refusals of reports.
+fn take_after_report(checks: &mut Checks) {
+    let mut memory = one_window(4_096, 8_192);
+    memory.first.bytes[8_192 - 512 + 503] = 0xC0;
+    memory.first.bytes[8_192 - 512 + 511] = 0xFF;
+    let made = report(&memory, 11_776);
     let pair = made.pairs[31];
     let right = (made.refusal, made.count) == (0, 2)
         && (pair.pending, pair.enable) == (3 << 62, 0xFF << 56)
@@ -364,18 +372,20 @@ fn take_and_report(checks: &mut Checks) {
             .iter()
             .all(|p| p.pending == 0 && p.enable == 0);
     checks.holds("report: 2 pending, pair 31", right);
-    let found = take(4_096, &mut bytes, 11_776, 2_047);
+    let found = take(&mut memory, 11_776, 2_047);
     checks.answer("take of 1", found, Answer::Taken(true));
-    let left = bytes[8_192 - 512 + 503] == 0x40 && bytes[8_192 - 512 + 511] == 0xFF;
+    let bytes = &memory.first.bytes[8_192 - 512..];
+    let left = bytes[503] == 0x40 && bytes[511] == 0xFF;
     checks.holds("take clears its own bit only", left);
-    let found = take(4_096, &mut bytes, 11_776, 2_047);
+    let found = take(&mut memory, 11_776, 2_047);
     checks.answer("take again", found, Answer::Taken(false));
     for (name, start, file, number) in [
         ("report breaks 2001 and 2008", 1, 3, 2001),
         ("report breaks 2008", 4_096, 3, 2008),
         ("report above", 4_096, 12_288, 2008),
     ] {
-        let made = report(start, &bytes, file);
+        memory.first.start = start;
+        let made = report(&memory, file);
         let zero = made.pairs.iter().all(|p| p.pending == 0 && p.enable == 0);
         checks.holds(name, made.refusal == number && made.count == 0 && zero);
     }
@@ -385,11 +395,7 @@ fn take_and_report(checks: &mut Checks) {
 fn untranslated(checks: &mut Checks) {
     let top = 1u64 << 56;
     let mut layout = bench([1, 0, 0, 0, 0, 0, 0, 0]);
-    let bare = Settings {
-        start: START,
-        mode: 1,
-        root: 0,
-    };
+    let bare = Settings { mode: 1, root: 0 };
     for (access, cause) in [
         (Access::ReadForExecute, 1),
         (Access::Read, 5),
@@ -398,14 +404,14 @@ fn untranslated(checks: &mut Checks) {
         let name = format!("{} at 2^56", access.name());
         let asked = plain(access, top);
         let expected = fault(cause, Stage::Directory);
-        let found = request(&bare, &mut layout.bytes, &asked, 0);
+        let found = request(&bare, &mut layout.memory, &asked, 0);
         checks.answer(&format!("Bare directory, {name}"), found, expected);
         let found = run(&mut layout, &asked, 0);
         checks.answer(&format!("both stages Bare, {name}"), found, expected);
     }
     let asked = plain(Access::Read, top - 4);
     let passed = Answer::Translated(top - 4);
-    let found = request(&bare, &mut layout.bytes, &asked, 0);
+    let found = request(&bare, &mut layout.memory, &asked, 0);
     checks.answer(
         "Bare directory, the last four bytes below 2^56",
         found,
@@ -603,7 +609,7 @@ fn user_rule_below(checks: &mut Checks) {
 
 /// Both stages: a first stage of 4 KiB pages whose tables lie at guest addresses. Guest pages 1, 2
 /// and 3 are the window's pages 3, 9 and 10, which hold the first stage's three tables.
-fn two_stage_bench() -> Layout {
+pub fn two_stage_bench() -> Layout {
     let mut context = message_context();
     context[3] = root_of(8, 0x1000);
     let mut layout = bench(context);
@@ -724,8 +730,8 @@ fn ledger_rules(checks: &mut Checks) {
     let layout = message_bench(P6_ENTRY);
     let mut stored = layout.clone();
     run(&mut stored, &plain(Access::Write, 0x8000_6000), 37);
-    let close = |steps: &[(Call, Answer)], ending: &[u8]| {
-        let mut ledger = Ledger::new(START, &layout.bytes);
+    let close = |steps: &[(Call, Answer)], ending: &Memory| {
+        let mut ledger = Ledger::new(&layout.memory);
         for (call, answer) in steps {
             ledger.feed(call, *answer)?;
         }
@@ -733,7 +739,7 @@ fn ledger_rules(checks: &mut Checks) {
     };
     let store = (write, p6_store());
     let taken = |pending| (take_call, Answer::Taken(pending));
-    let (zero, one) = (&layout.bytes, &stored.bytes);
+    let (zero, one) = (&layout.memory, &stored.memory);
     checks.holds("ledger: an empty list", close(&[], zero).is_ok());
     checks.holds(
         "ledger: store, merged store",
@@ -746,8 +752,8 @@ fn ledger_rules(checks: &mut Checks) {
     );
     let lost = close(&[store], zero).is_err();
     checks.holds("ledger rejects a store that sets nothing", lost);
-    let mut every = layout.bytes.clone();
-    every[0x1200..0x1400].fill(0xFF);
+    let mut every = layout.memory.clone();
+    every.first.bytes[0x1200..0x1400].fill(0xFF);
     let all_bits = close(&[store], &every).is_err();
     checks.holds("ledger rejects a store that sets every bit", all_bits);
     let always = close(&[taken(true)], zero).is_err();

@@ -5,6 +5,7 @@ use std::io::Write;
 
 use crate::aplic::{Delivery, Domain};
 use crate::iommu::{report, request, take};
+use crate::memory::{Memory, Side, Window};
 use crate::types::{Access, Request, Settings, Stage};
 
 /// The most bytes that a memory has.
@@ -32,17 +33,25 @@ pub fn run(text: &str, out: &mut impl Write) -> Result<(), String> {
     Ok(())
 }
 
-/// A memory, as much of it as is lent, and the settings.
-struct Memory {
+/// A memory, and as much of it as is lent, as a window from a start on.
+#[derive(Default)]
+struct Lent {
+    start: u64,
+    length: usize,
     bytes: Vec<u8>,
-    lent: usize,
+}
+
+/// The memories of the two windows, and the settings.
+struct Board {
+    first: Lent,
+    second: Lent,
     settings: Settings,
 }
 
 /// What the lines so far have made.
 #[derive(Default)]
 struct Rows {
-    memory: Option<Memory>,
+    board: Option<Board>,
     domain: Option<Domain>,
 }
 
@@ -66,15 +75,15 @@ impl Rows {
     /// A line of a known letter, with as many numbers as it has.
     fn run(&mut self, letter: &str, numbers: &[u64]) -> Result<Printed, Broken> {
         match letter {
-            "m" => self.lend(Vec::new(), numbers)?,
-            "s" => {
-                let bytes = std::mem::take(&mut self.memory()?.bytes);
-                self.lend(bytes, numbers)?;
-            }
-            "w" => self.memory()?.put(numbers[0], numbers[1])?,
-            "r" => return self.memory()?.request(numbers).map(Some),
-            "t" => return Ok(Some(self.memory()?.take(numbers[0], numbers[1]))),
-            "p" => return Ok(Some(self.memory()?.report(numbers[0]))),
+            "m" => self.board = Some(Board::new(numbers)?),
+            "s" => self.board()?.set(numbers)?,
+            "w" => self.board()?.first.put(numbers[0], numbers[1])?,
+            "n" => self.board()?.second = Lent::new(numbers[0], numbers[1])?,
+            "o" => self.board()?.second.lend(numbers[0], numbers[1])?,
+            "v" => self.board()?.second.put(numbers[0], numbers[1])?,
+            "r" => return self.board()?.request(numbers).map(Some),
+            "t" => return Ok(Some(self.board()?.take(numbers[0], numbers[1]))),
+            "p" => return Ok(Some(self.board()?.report(numbers[0]))),
             "d" => self.domain = Some(Domain::new(delivery(numbers[0])?)),
             _ => return self.run_domain(letter, numbers),
         }
@@ -100,29 +109,31 @@ impl Rows {
         }))
     }
 
-    fn memory(&mut self) -> Result<&mut Memory, Broken> {
-        self.memory.as_mut().ok_or("no memory yet")
-    }
-
-    /// Lends bytes under settings: start, length, mode and root.
-    fn lend(&mut self, mut bytes: Vec<u8>, numbers: &[u64]) -> Result<(), Broken> {
-        let &[start, length, mode, root] = numbers else {
-            return Err("four numbers are needed");
-        };
-        if length > MOST {
-            return Err("the length is above 131072");
-        }
-        bytes.resize(MOST as usize, 0);
-        self.memory = Some(Memory {
-            bytes,
-            lent: length as usize,
-            settings: Settings { start, mode, root },
-        });
-        Ok(())
+    fn board(&mut self) -> Result<&mut Board, Broken> {
+        self.board.as_mut().ok_or("no memory yet")
     }
 }
 
-impl Memory {
+impl Lent {
+    /// A memory of zero bytes, lent from a start on.
+    fn new(start: u64, length: u64) -> Result<Lent, Broken> {
+        let mut lent = Lent {
+            bytes: vec![0; MOST as usize],
+            ..Lent::default()
+        };
+        lent.lend(start, length)?;
+        Ok(lent)
+    }
+
+    /// Lends the bytes as they are under another start and length.
+    fn lend(&mut self, start: u64, length: u64) -> Result<(), Broken> {
+        if length > MOST {
+            return Err("the length is above 131072");
+        }
+        (self.start, self.length) = (start, length as usize);
+        Ok(())
+    }
+
     /// Puts a doubleword, lowest byte first.
     fn put(&mut self, offset: u64, value: u64) -> Result<(), Broken> {
         if offset > MOST - 8 {
@@ -131,6 +142,55 @@ impl Memory {
         let offset = offset as usize;
         self.bytes[offset..offset + 8].copy_from_slice(&value.to_le_bytes());
         Ok(())
+    }
+
+    /// The window that is lent.
+    fn window(&self) -> Window {
+        Window {
+            start: self.start,
+            bytes: self.bytes[..self.length].to_vec(),
+        }
+    }
+}
+
+impl Board {
+    /// A new first memory under settings: start, length, mode and root; an empty second window at 0.
+    fn new(numbers: &[u64]) -> Result<Board, Broken> {
+        let mut board = Board {
+            first: Lent::new(0, 0)?,
+            second: Lent::new(0, 0)?,
+            settings: Settings { mode: 0, root: 0 },
+        };
+        board.set(numbers)?;
+        Ok(board)
+    }
+
+    /// Other settings: the first window's start and length, mode and root.
+    fn set(&mut self, numbers: &[u64]) -> Result<(), Broken> {
+        let &[start, length, mode, root] = numbers else {
+            return Err("four numbers are needed");
+        };
+        self.settings = Settings { mode, root };
+        self.first.lend(start, length)
+    }
+
+    /// The two windows that are lent.
+    fn memory(&self) -> Memory {
+        Memory {
+            first: self.first.window(),
+            second: self.second.window(),
+        }
+    }
+
+    /// Keeps the windows' bytes as a call left them.
+    fn keep(&mut self, memory: &Memory) {
+        for &side in Side::ALL {
+            let lent = match side {
+                Side::First => &mut self.first,
+                Side::Second => &mut self.second,
+            };
+            lent.bytes[..lent.length].copy_from_slice(&memory.window(side).bytes);
+        }
     }
 
     /// DEVICE, PROCESS, FLAGS, ACCESS, ADDRESS, COUNT and DATA; the answer's four numbers, then the
@@ -154,23 +214,24 @@ impl Memory {
             length,
         };
         let data = word(data)?;
-        let lent = &mut self.bytes[..self.lent];
-        let answer = request(&self.settings, lent, &asked, data);
+        let mut memory = self.memory();
+        let answer = request(&self.settings, &mut memory, &asked, data);
+        self.keep(&memory);
         let mut values = answer.numbers().to_vec();
         values.push(answer.stage().map_or(0, Stage::number));
         Ok(values)
     }
 
     fn take(&mut self, file: u64, identity: u64) -> Vec<u64> {
-        let lent = &mut self.bytes[..self.lent];
-        take(self.settings.start, lent, file, identity)
-            .numbers()
-            .to_vec()
+        let mut memory = self.memory();
+        let answer = take(&mut memory, file, identity);
+        self.keep(&memory);
+        answer.numbers().to_vec()
     }
 
     /// The refusal, the count, the sum of the pending doublewords and that of the enable ones.
     fn report(&self, file: u64) -> Vec<u64> {
-        let report = report(self.settings.start, &self.bytes[..self.lent], file);
+        let report = report(&self.memory(), file);
         let mut sums = [0u64; 2];
         for pair in report.pairs {
             sums[0] = sums[0].wrapping_add(pair.pending);
@@ -185,7 +246,7 @@ fn numbers_after(letter: &str) -> Option<usize> {
     match letter {
         "m" | "s" => Some(4),
         "r" => Some(7),
-        "w" | "t" | "x" | "y" => Some(2),
+        "w" | "n" | "o" | "v" | "t" | "x" | "y" => Some(2),
         "p" | "d" | "z" | "c" | "g" => Some(1),
         "f" => Some(0),
         _ => None,

@@ -13,7 +13,8 @@ fn answers(text: &str) -> Result<String, String> {
 
 #[test]
 fn lines_that_print_nothing() {
-    let text = "# a remark\n#\n\nm 0 4096 0 0\ns 0x1000 0 1 0\nw 0x1fff8 0xffffffffffffffff\nd 0\ny 0 256\n";
+    let text = "# a remark\n#\n\nm 0 4096 0 0\ns 0x1000 0 1 0\nw 0x1fff8 0xffffffffffffffff\n\
+        n 0x2000 4096\no 0 131072\nv 0x1fff8 1\nd 0\ny 0 256\n";
     assert_eq!(answers(text), Ok(String::new()));
 }
 
@@ -66,6 +67,16 @@ fn broken_lines_end_with_their_number() {
         "w 0 0X1",
         "w 0 1f",
         "w 0 x",
+        "n 0",
+        "n 0 0 0",
+        "n 0 131073",
+        "o 0",
+        "o 0 0 0",
+        "o 0 131073",
+        "v 0",
+        "v 0 0 0",
+        "v 131065 0",
+        "v 0xffffffffffffffff 0",
         "r 0 0 0 0 0 4",
         "r 0 0 0 0 0 4 0 0",
         "r 0 0 4 0 0 4 0",
@@ -96,6 +107,9 @@ fn broken_lines_end_with_their_number() {
     for line in [
         "s 0 0 0 0",
         "w 0 0",
+        "n 0 0",
+        "o 0 0",
+        "v 0 0",
         "r 0 0 0 0 0 4 0",
         "t 0 0",
         "p 0",
@@ -145,6 +159,29 @@ fn worked_cases_of_a_file() {
         3 2 1073746432 671088640 1029 0\n4 3 0 0 0 0\n5 2 1073746432 671088640 1029 0\n6 3 0 0 0 0\n\
         7 0 2 9223372174293729280 0\n8 6 1 0 0\n9 6 0 0 0\n";
     assert_eq!(answers(&text), Ok(expected.to_string()));
+}
+
+/// `m` makes the second window empty at 0, `s` leaves it, `n` makes a new one, `o` lends its bytes as they
+/// are, also beyond its old length, and `v` writes them.
+#[test]
+fn second_windows() {
+    let text = "m 0x1000 4096 1 0\nt 0x1000 0\nt 0 0\nn 0x3000 4096\nv 0 1\nv 0x1000 2\nt 0x4000 1\n\
+        o 0x3000 8192\nt 0x4000 1\ns 0x8000 4096 1 0\nt 0x3000 0\nt 0x8000 0\nw 0 1\nt 0x8000 0\n\
+        v 0 1\no 0x5000 4096\nt 0x5000 0\nv 0 1\nn 0x5000 4096\nt 0x5000 0\nv 0 1\nm 0x1000 4096 1 0\n\
+        t 0x5000 0\no 0x5000 4096\nt 0x5000 0\n";
+    let expected =
+        "1 6 0 0 0\n2 5 2008 0 0\n3 5 2008 0 0\n4 6 1 0 0\n5 6 1 0 0\n6 6 0 0 0\n7 6 1 0 0\n\
+        8 6 1 0 0\n9 6 0 0 0\n10 5 2008 0 0\n11 6 0 0 0\n";
+    assert_eq!(answers(text), Ok(expected.to_string()));
+}
+
+/// 02, Req 05: 2001 covers both windows, and 2011 comes just after it.
+#[test]
+fn windows_that_are_refused() {
+    let text = "m 0 4096 5 0\nn 0x200 0\nr 0 0 0 0 0 4 0\nn 0 4096\nr 0 0 0 0 0 4 0\nt 1 0\np 1\n\
+        o 0x1000 4096\nr 0 0 0 0 0 4 0\n";
+    let expected = "1 5 2001 0 0 0\n2 5 2011 0 0 0\n3 5 2011 0 0\n4 2011 0 0 0\n5 5 2002 0 0 0\n";
+    assert_eq!(answers(text), Ok(expected.to_string()));
 }
 
 #[test]

@@ -7,6 +7,7 @@ use crate::generate::{list, Call, List};
 use crate::iommu::{report_observed, request_observed, take_observed};
 use crate::ledger::Ledger;
 use crate::mark::{Mark, See, CAUSES};
+use crate::memory::{Memory, Side};
 use crate::types::{Answer, Settings};
 
 /// The counts of a run.
@@ -19,8 +20,8 @@ pub struct Coverage {
     pub failures: Vec<String>,
 }
 
-/// Runs one call on a window.
-pub fn run_call(start: u64, window: &mut [u8], call: &Call, see: See) -> Answer {
+/// Runs one call on the two windows.
+pub fn run_call(memory: &mut Memory, call: &Call, see: See) -> Answer {
     match call {
         Call::Request {
             mode,
@@ -29,13 +30,12 @@ pub fn run_call(start: u64, window: &mut [u8], call: &Call, see: See) -> Answer 
             data,
         } => {
             let settings = Settings {
-                start,
                 mode: *mode,
                 root: *root,
             };
-            request_observed(&settings, window, request, *data, see)
+            request_observed(&settings, memory, request, *data, see)
         }
-        Call::Take { file, identity } => take_observed(start, window, *file, *identity, see),
+        Call::Take { file, identity } => take_observed(memory, *file, *identity, see),
     }
 }
 
@@ -55,25 +55,28 @@ impl Coverage {
 
     /// Runs one list, with its ledger.
     fn run_list(&mut self, list: &List, index: u64) {
-        let mut ledger = Ledger::new(list.start, &list.window);
-        let mut window = list.window.clone();
-        let mut before = list.window.clone();
+        let mut ledger = Ledger::new(&list.memory);
+        let mut memory = list.memory.clone();
+        let mut before = list.memory.clone();
         for (number, call) in list.calls.iter().enumerate() {
             let marks = &mut self.marks;
             let mut see = |mark| *marks.entry(mark).or_insert(0) += 1;
-            let answer = run_call(list.start, &mut window, call, &mut see);
+            let answer = run_call(&mut memory, call, &mut see);
             self.calls += 1;
             self.answers[answer.numbers()[0] as usize] += 1;
-            if before != window {
-                let verdict = check_change(list.start, &before, &window, call, answer);
+            if before != memory {
+                let verdict = check_change(&before, &memory, call, answer);
                 self.check(index, number, verdict);
-                before.copy_from_slice(&window);
+                for &side in Side::ALL {
+                    let bytes = &mut before.window_mut(side).bytes;
+                    bytes.clone_from(&memory.window(side).bytes);
+                }
             }
             let verdict = ledger.feed(call, answer);
             self.check(index, number, verdict);
         }
-        self.check(index, list.calls.len(), ledger.close(&window));
-        self.check_reports(list, index, &window, &ledger);
+        self.check(index, list.calls.len(), ledger.close(&memory));
+        self.check_reports(list, index, &memory, &ledger);
         self.lists += 1;
     }
 
@@ -86,14 +89,14 @@ impl Coverage {
     }
 
     /// A report of each file that a take of the list named: its count is that of the ledger.
-    fn check_reports(&mut self, list: &List, index: u64, window: &[u8], ledger: &Ledger) {
+    fn check_reports(&mut self, list: &List, index: u64, memory: &Memory, ledger: &Ledger) {
         for (number, call) in list.calls.iter().enumerate() {
             let Call::Take { file, .. } = call else {
                 continue;
             };
             let marks = &mut self.marks;
             let mut see = |mark| *marks.entry(mark).or_insert(0) += 1;
-            let report = report_observed(list.start, window, *file, &mut see);
+            let report = report_observed(memory, *file, &mut see);
             let zero = report.pairs.iter().all(|p| p.pending == 0 && p.enable == 0);
             let fits = match report.refusal {
                 0 => report.count == ledger.waiting(*file),
@@ -172,12 +175,12 @@ impl Coverage {
     }
 }
 
-/// Looks at a window that changed. 01, What a request holds: only answers 2 and 6 may change it, and
-/// they at most the one byte of their file that holds the identity's bit.
+/// Looks at a memory that changed. 01, What a request holds: only answers 2 and 6 may change it. 02,
+/// Req 05: a store changes at most one byte of one window, and so does a take: the one of the file
+/// that holds the identity's bit, in the window that the file lies in.
 fn check_change(
-    start: u64,
-    before: &[u8],
-    after: &[u8],
+    before: &Memory,
+    after: &Memory,
     call: &Call,
     answer: Answer,
 ) -> Result<(), String> {
@@ -186,23 +189,36 @@ fn check_change(
             (file, crate::message::identity_of(request.address, *data))
         }
         (Call::Take { file, identity }, Answer::Taken(true)) => (*file, *identity),
-        _ => return Err(format!("answer {:?} changed the window", answer.numbers())),
+        _ => return Err(format!("answer {:?} changed a window", answer.numbers())),
     };
-    let byte = file - start + identity / 64 * 16 + identity % 64 / 8;
-    let changed = (0..before.len()).filter(|place| before[*place] != after[*place]);
-    for place in changed {
-        let difference = before[place] ^ after[place];
-        if place as u64 != byte || difference != 1 << (identity % 8) {
-            return Err(format!("byte {place} changed"));
+    let byte = u128::from(file + identity / 64 * 16 + identity % 64 / 8);
+    let mut changed = 0;
+    for &side in Side::ALL {
+        let (old, new) = (before.window(side), after.window(side));
+        if (old.start, old.bytes.len()) != (new.start, new.bytes.len()) {
+            return Err(format!("the {} window's place changed", side.name()));
+        }
+        for place in (0..old.bytes.len()).filter(|place| old.bytes[*place] != new.bytes[*place]) {
+            let difference = old.bytes[place] ^ new.bytes[place];
+            changed += 1;
+            if u128::from(old.start) + place as u128 != byte || difference != 1 << (identity % 8) {
+                return Err(format!("byte {place} of the {} changed", side.name()));
+            }
         }
     }
-    Ok(())
+    match changed {
+        1 => Ok(()),
+        _ => Err(format!("{changed} bytes changed")),
+    }
 }
 
 #[cfg(test)]
 mod tests {
-    use super::Coverage;
+    use super::{run_call, Coverage};
+    use crate::generate::{list, Call, List};
     use crate::mark::Mark;
+    use crate::memory::{Memory, Side, Window};
+    use crate::types::Answer;
 
     #[test]
     fn generated_lists_keep_the_ledger() {
@@ -212,8 +228,18 @@ mod tests {
         assert_eq!(coverage.calls, 20_000);
     }
 
+    /// Another window, or none.
+    fn other(found: Option<Side>) -> Option<Side> {
+        match found {
+            Some(Side::First) => Some(Side::Second),
+            Some(Side::Second) => None,
+            None => Some(Side::First),
+        }
+    }
+
     /// A mark with the word that it must not have: two checks in the other order, a page opened or
-    /// barred, an edge passed or not, a field accepted or refused the wrong way round.
+    /// barred, an edge passed or not, a field accepted or refused, windows refused or not, an entry or a
+    /// file found or not the wrong way round.
     fn wrong_word(mark: Mark) -> Option<Mark> {
         match mark {
             Mark::Before(asked, first, other) => Some(Mark::Before(asked, other, first)),
@@ -223,8 +249,67 @@ mod tests {
             }
             Mark::Edge(walk, mode, edge, passed) => Some(Mark::Edge(walk, mode, edge, !passed)),
             Mark::Field(field, accepted) => Some(Mark::Field(field, !accepted)),
+            Mark::Windows(asked, lie, refusal) => Some(Mark::Windows(
+                asked,
+                lie,
+                if refusal == 0 { 2011 } else { 0 },
+            )),
+            Mark::Load(table, place, found) => Some(Mark::Load(table, place, other(found))),
+            Mark::File(purpose, place, found) => Some(Mark::File(purpose, place, other(found))),
             _ => None,
         }
+    }
+
+    /// Runs calls on a memory; their answers, and the memory after them.
+    fn answers(mut memory: Memory, calls: &[Call]) -> (Vec<Answer>, Memory) {
+        let run = |call| run_call(&mut memory, call, &mut |_| {});
+        (calls.iter().map(run).collect(), memory)
+    }
+
+    /// 02, Req 05: no rule prefers one of the windows, so that in the other order they answer alike.
+    #[test]
+    fn windows_may_be_swapped() {
+        let swap = |Memory { first, second }| Memory {
+            first: second,
+            second: first,
+        };
+        for index in 0..1_500 {
+            let List { memory, calls } = list(12, index);
+            let (swapped, after) = answers(swap(memory.clone()), &calls);
+            let expected = answers(memory, &calls);
+            assert_eq!((swapped, swap(after)), expected, "list {index}");
+        }
+    }
+
+    /// Two windows side by side answer as one window of their bytes.
+    #[test]
+    fn windows_side_by_side_are_one() {
+        let mut made = 0;
+        for index in 0..1_500 {
+            let List { memory, calls } = list(13, index);
+            let Memory { first, second } = &memory;
+            if memory.overlap() || first.end() != u128::from(second.start) {
+                continue;
+            }
+            let one = Window {
+                start: first.start,
+                bytes: [&first.bytes[..], &second.bytes].concat(),
+            };
+            let second = Window::default();
+            let (joined, after) = answers(Memory { first: one, second }, &calls);
+            let (expected, both) = answers(memory, &calls);
+            let bytes = [both.first.bytes, both.second.bytes].concat();
+            // A window that 2001 refuses may make up a legal one with the other.
+            if expected.first() != Some(&Answer::Refused(2001)) {
+                assert_eq!(
+                    (joined, after.first.bytes),
+                    (expected, bytes),
+                    "list {index}"
+                );
+                made += 1;
+            }
+        }
+        assert!(made > 100, "{made}");
     }
 
     #[test]
@@ -235,9 +320,10 @@ mod tests {
         };
         assert!(whole.holds());
         let wrong: Vec<Mark> = Mark::all().into_iter().filter_map(wrong_word).collect();
-        // The order of refusals has 14, 3 and 1 rows, the rule of U 42, the schemes' edges 26, the
-        // fields 64, 16 and 130.
-        assert_eq!(wrong.len(), 14 + 3 + 1 + 42 + 26 + 64 + 16 + 130);
+        // The order of refusals has 20, 6 and 3 rows, the rule of U 42, the schemes' edges 26, the
+        // fields 64, 16 and 130, the windows 30 for each call, loads 7 and files 3 for each place.
+        let windows = 3 * 30 + 7 * 3 + 3 * 3;
+        assert_eq!(wrong.len(), 20 + 6 + 3 + 42 + 26 + 64 + 16 + 130 + windows);
         for mark in wrong {
             let mut coverage = whole.clone();
             coverage.marks.insert(mark, 1);

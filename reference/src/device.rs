@@ -1,10 +1,12 @@
 //! Device directory and device context (003, Device-Directory-Table; 01, Directories).
 
+use crate::file::read;
 use crate::mark::{Field, Point, Setting, Word};
 use crate::paging::{FirstStage, Root};
 use crate::scheme::{self, is_mode, of_mode};
 use crate::task::{first_broken, Task};
 use crate::types::{bit, bits, page_address, Settings, Stage, Step};
+use crate::windows::Table;
 
 /// The eight doublewords of an extended device context.
 #[derive(Clone, Copy, Debug, PartialEq, Eq)]
@@ -119,7 +121,7 @@ pub fn locate(task: &mut Task, settings: &Settings) -> Step<DeviceContext> {
 /// 003, Process to locate the Device-context, steps 3 to 7: one non-leaf entry's page number.
 fn load_non_leaf(task: &mut Task, address: u64) -> Step<u64> {
     // Step 3.
-    let Some(ddte) = task.window.load(address) else {
+    let Some(ddte) = task.load(Table::DevicePointer, address) else {
         return task.end(Point::F257NonLeaf, 257, Stage::Directory);
     };
     // Step 5.
@@ -140,20 +142,14 @@ fn load_non_leaf(task: &mut Task, address: u64) -> Step<u64> {
 
 /// 003, Process to locate the Device-context, steps 8 to 11.
 fn load_context(task: &mut Task, address: u64) -> Step<DeviceContext> {
-    // Step 8: a context lies in the window whole or not at all (D13).
-    let Some(tc) = task.window.load(address) else {
+    // Step 8: a context lies in a window whole or not at all (D13).
+    let Some(entry) = task.entry(Table::DeviceContext, address, 64) else {
         return task.end(Point::F257Context, 257, Stage::Directory);
     };
+    let words: [u64; 8] = std::array::from_fn(|number| read(&entry[8 * number..]));
     // Step 9.
-    if !bit(tc, 0) {
+    if !bit(words[0], 0) {
         return task.end(Point::F258Context, 258, Stage::Directory);
-    }
-    let mut words = [tc; 8];
-    for (number, word) in words.iter_mut().enumerate() {
-        match task.window.load(address + 8 * number as u64) {
-            Some(value) => *word = value,
-            None => return task.end(Point::F257Context, 257, Stage::Directory),
-        }
     }
     let [tc, iohgatp, ta, fsc, msiptp, mask, pattern, reserved] = words;
     let context = DeviceContext {

@@ -1,6 +1,8 @@
-//! The generator: lists of calls over one window, a function of the seed and the index alone.
+//! The generator: lists of calls over two windows, a function of the seed and the index alone.
 
 use crate::damage::damage;
+use crate::memory::{Memory, Side};
+use crate::placement::{break_windows, overlap};
 use crate::random::Random;
 use crate::scheme::{FIRST, SECOND};
 use crate::types::{Access, Request};
@@ -21,11 +23,10 @@ pub enum Call {
     },
 }
 
-/// A window and the calls that run over it in order; all of them give the same start.
+/// Two windows and the calls that run over them in order; all of them give the same starts.
 #[derive(Clone, Debug, PartialEq, Eq)]
 pub struct List {
-    pub start: u64,
-    pub window: Vec<u8>,
+    pub memory: Memory,
     pub calls: Vec<Call>,
 }
 
@@ -51,63 +52,51 @@ pub fn list(seed: u64, index: u64) -> List {
         };
         calls.push(call);
     }
-    let mut list = List {
-        start: world.layout.start,
-        window: world.layout.bytes,
-        calls,
-    };
-    if world.random.chance(2) {
-        break_window(&mut world.random, &mut list);
+    let World { random, layout, .. } = &mut world;
+    if random.chance(3) {
+        overlap(random, &mut layout.memory);
     }
-    list
-}
-
-/// A window that 2001 refuses.
-fn break_window(random: &mut Random, list: &mut List) {
-    let length = list.window.len() as u64;
-    match random.below(6) {
-        0 => list.start += random.between(1, 4_095),
-        1 => list.window.truncate((length - length.min(1)) as usize),
-        2 => list.window.push(0),
-        3 => list.start = (1 << 56) - length + 4_096,
-        4 => list.start = u64::MAX - random.below(2) * 4_095,
-        _ => list.start = random.number() | 1 << 63,
+    if random.chance(if layout.memory.overlap() { 20 } else { 3 }) {
+        break_windows(random, &mut layout.memory);
+    }
+    List {
+        memory: world.layout.memory,
+        calls,
     }
 }
 
 /// A take: of what was just stored, or of something else, or a bad one.
 fn take_call(world: &mut World, stored: &[(u64, u64)]) -> Call {
-    let start = world.layout.start;
-    let length = world.layout.bytes.len() as u64;
-    let random = &mut world.random;
-    let last = stored.last().copied().unwrap_or((start, 37));
-    let (mut file, mut identity) = random.choose(stored).unwrap_or(last);
-    match random.below(100) {
+    let last = match stored.last() {
+        Some(last) => *last,
+        None => (world.any_file(), 37),
+    };
+    let (mut file, mut identity) = world.random.choose(stored).unwrap_or(last);
+    match world.random.below(100) {
         0..=54 => (file, identity) = last,
         55..=69 => {}
-        70..=77 => identity = random.below(2_048),
+        70..=77 => identity = world.random.below(2_048),
         78..=83 => {
-            file = random.choose(&world.files).unwrap_or(start);
-            identity = random.below(2_048);
+            file = world.random.choose(&world.files).unwrap_or(file);
+            identity = world.random.below(2_048);
         }
-        84..=86 => file = start + random.below(length / 512) * 512,
-        87..=94 => file = bad_file(random, start, length, file),
-        95..=98 => identity = bad_identity(random),
+        84..=86 => file = world.any_file(),
+        87..=94 => file = bad_file(world, file),
+        95..=98 => identity = bad_identity(&mut world.random),
         _ => {
-            file = bad_file(random, start, length, file);
-            identity = bad_identity(random);
+            file = bad_file(world, file);
+            identity = bad_identity(&mut world.random);
         }
     }
     Call::Take { file, identity }
 }
 
-/// A file that 2008 refuses: off its alignment, or beside the window.
-fn bad_file(random: &mut Random, start: u64, length: u64, file: u64) -> u64 {
-    match random.below(8) {
-        0..=1 => file + random.between(1, 511),
-        2..=3 => start.saturating_sub(512),
-        4..=5 => start.saturating_add(length),
-        6 => random.number() & !511,
+/// A file that 2008 refuses: off its alignment, or beside a window, where no other window is.
+fn bad_file(world: &mut World, file: u64) -> u64 {
+    match world.random.below(8) {
+        0..=1 => file + world.random.between(1, 511),
+        2..=5 => world.file_beside(),
+        6 => world.random.number() & !511,
         _ => u64::MAX,
     }
 }
@@ -145,7 +134,9 @@ fn request_call(world: &mut World, stored: &mut Vec<(u64, u64)>) -> Call {
     let data = choose_data(random, &request, target.message, stored);
     let (mut mode, mut root) = (world.mode, world.root);
     if random.chance(8) {
-        (mode, root) = change_settings(random, mode, root, world.layout.start);
+        let side = random.pick(Side::ALL);
+        let start = world.layout.memory.window(side).start;
+        (mode, root) = change_settings(random, mode, root, start);
     } else if random.chance(18) {
         change_request(random, &mut request);
     } else if random.chance(2) {

@@ -3,15 +3,17 @@
 use crate::device::{self, DeviceContext};
 use crate::file::{self, FILE_SIZE};
 use crate::mark::{Asked, Mark, Point, See, Walk, Word};
-use crate::memory::Window;
+use crate::memory::{Memory, Side, Window};
 use crate::message::{self, MessageEntry};
 use crate::paging::{self, FirstStage, Page};
 use crate::process;
 use crate::task::{first_broken, Task};
 use crate::types::{Answer, Pair, Report, Request, Settings, Stage, Step};
+use crate::windows::{Lie, Place, Purpose, Trail};
 
-/// A file's place in the window, with the identity to set.
+/// A file's place, the window that holds it, and the identity to set.
 struct Store {
+    side: Side,
     file: u64,
     identity: u64,
     notice_address: u64,
@@ -25,56 +27,59 @@ enum End {
 }
 
 /// One device request.
-pub fn request(settings: &Settings, window: &mut [u8], request: &Request, data: u32) -> Answer {
-    request_observed(settings, window, request, data, &mut |_| {})
+pub fn request(settings: &Settings, memory: &mut Memory, request: &Request, data: u32) -> Answer {
+    request_observed(settings, memory, request, data, &mut |_| {})
 }
 
 /// One device request; the observer is told of each check that decides.
 pub fn request_observed(
     settings: &Settings,
-    window: &mut [u8],
+    memory: &mut Memory,
     request: &Request,
     data: u32,
     see: See,
 ) -> Answer {
-    let mut broken = Vec::from_iter(broken_window(settings.start, window.len()));
+    let mut broken = broken_windows(memory);
     broken.extend(broken_request(settings, request));
-    if let Some(number) = refuse(Asked::Request, &broken, see) {
+    if let Some(number) = refuse(Asked::Request, memory, &broken, see) {
         return Answer::Refused(number);
     }
     let mut task = Task {
-        window: Window {
-            start: settings.start,
-            bytes: window,
-        },
+        memory,
         request: *request,
         see: &mut *see,
+        trail: Trail::default(),
     };
-    match translate(&mut task, settings, data) {
+    let end = translate(&mut task, settings, data);
+    let over = task.trail.over();
+    let answer = match end {
         Ok(End::Answer(answer)) => answer,
-        Ok(End::Store(place)) => store(settings.start, window, &place, see),
-        Err(answer) => {
-            if let Answer::Fault { cause, stage } = answer {
-                see(Mark::Cause(stage, cause));
-            }
-            answer
-        }
+        Ok(End::Store(place)) => store(memory, &place, see),
+        Err(answer) => answer,
+    };
+    match (answer, over) {
+        (Answer::Fault { cause, stage }, _) => see(Mark::Cause(stage, cause)),
+        (Answer::Refused(_), _) | (_, None) => {}
+        (_, Some(over)) => see(Mark::Ended(answer.numbers()[0], over)),
     }
+    answer
 }
 
 /// A broken check: the number that it refuses with, and its mark.
 type Broken = (u64, Point);
 
 /// The number of the first broken check, none where nothing is broken; the observer is told of the
-/// check, and of those that it comes before.
-fn refuse(asked: Asked, broken: &[Broken], see: See) -> Option<u64> {
+/// check, of those that it comes before, and of how the windows lie.
+fn refuse(asked: Asked, memory: &Memory, broken: &[Broken], see: See) -> Option<u64> {
+    let of_windows = broken
+        .first()
+        .filter(|(number, _)| [2001, 2011].contains(number));
+    let refusal = of_windows.map_or(0, |(number, _)| *number);
+    see(Mark::Windows(asked, Lie::of(memory), refusal));
     let (number, point) = *broken.first()?;
     see(Mark::Point(point));
     match (asked, number) {
-        (Asked::Request, 2001) => see(Mark::Point(Point::RequestRefused2001)),
-        (Asked::Take, 2001) => see(Mark::Point(Point::TakeRefused2001)),
         (Asked::Take, 2008) => see(Mark::Point(Point::TakeRefused2008)),
-        (Asked::Report, 2001) => see(Mark::Point(Point::ReportRefused2001)),
         (Asked::Report, 2008) => see(Mark::Point(Point::ReportRefused2008)),
         _ => {}
     }
@@ -84,13 +89,32 @@ fn refuse(asked: Asked, broken: &[Broken], see: See) -> Option<u64> {
     Some(number)
 }
 
-/// Check 2001.
-fn broken_window(start: u64, length: usize) -> Option<Broken> {
-    let length = length as u128;
+/// Checks 2001 and 2011: those that are broken, in order. 02, Req 05: 2001 covers both windows, and
+/// 2011 comes just after it.
+fn broken_windows(memory: &Memory) -> Vec<Broken> {
+    let first = [
+        Point::R2001FirstStart,
+        Point::R2001FirstLength,
+        Point::R2001FirstHigh,
+    ];
+    let second = [
+        Point::R2001SecondStart,
+        Point::R2001SecondLength,
+        Point::R2001SecondHigh,
+    ];
+    let mut broken = Vec::new();
+    broken.extend(broken_window(&memory.first, first));
+    broken.extend(broken_window(&memory.second, second));
+    broken.extend(memory.overlap().then_some((2011, Point::R2011)));
+    broken
+}
+
+/// Check 2001 of one window, with its marks for start, length and end.
+fn broken_window(window: &Window, [start, length, high]: [Point; 3]) -> Option<Broken> {
     let point = first_broken(&[
-        (!start.is_multiple_of(4_096), Point::R2001Start),
-        (!length.is_multiple_of(4_096), Point::R2001Length),
-        (u128::from(start) + length > 1 << 56, Point::R2001High),
+        (!window.start.is_multiple_of(4_096), start),
+        (!window.bytes.len().is_multiple_of(4_096), length),
+        (window.end() > 1 << 56, high),
     ])?;
     Some((2001, point))
 }
@@ -300,11 +324,12 @@ fn message_end(task: &mut Task, context: &DeviceContext, guest: u64, data: u32) 
             notice_address,
             notice_number,
         } => {
-            let Some(identity) = stored_identity(task, file, guest, data)? else {
+            let Some((side, identity)) = stored_identity(task, file, guest, data)? else {
                 return Ok(End::Answer(Answer::Discarded));
             };
             note_store(task, guest, identity, notice_number);
             Ok(End::Store(Store {
+                side,
                 file,
                 identity,
                 notice_address,
@@ -314,28 +339,62 @@ fn message_end(task: &mut Task, context: &DeviceContext, guest: u64, data: u32) 
     }
 }
 
-/// 01, Messages: the identity to store, none where the access is discarded, or refusal 2007.
-fn stored_identity(task: &mut Task, file: u64, guest: u64, data: u32) -> Step<Option<u64>> {
+/// 01, Messages: the identity to store and the window that holds its file, none where the access is
+/// discarded, or refusal 2007. 02, Req 05: 2007 considers both windows.
+fn stored_identity(task: &mut Task, file: u64, guest: u64, data: u32) -> Step<Option<(Side, u64)>> {
     let request = task.request;
-    let inside = task.window.holds(file, FILE_SIZE);
-    match message::identity_to_store(request.access, request.length, guest, data) {
+    let holder = task.memory.holder(file, FILE_SIZE);
+    let identity = match message::identity_to_store(request.access, request.length, guest, data) {
+        Ok(identity) => identity,
         // Discarded before 2007 is looked at.
         Err(point) => {
             task.note(point);
-            if !inside {
+            if holder.is_none() {
                 task.note(Point::DiscardOutside);
             }
-            Ok(None)
+            return Ok(None);
         }
-        // Refusal 2007, last of all.
-        Ok(_) if !inside => {
-            task.note(match file < task.window.start {
-                true => Point::R2007Below,
-                false => Point::R2007Above,
-            });
-            Err(Answer::Refused(2007))
-        }
-        Ok(identity) => Ok(Some(identity)),
+    };
+    let place = Place::of(task.memory, file);
+    (task.see)(Mark::File(Purpose::Store, place, holder));
+    // Refusal 2007, last of all.
+    let Some(side) = holder else {
+        task.note(match outside(task.memory, file) {
+            Outside::Below => Point::R2007Below,
+            Outside::Between => Point::R2007Between,
+            _ => Point::R2007Above,
+        });
+        return Err(Answer::Refused(2007));
+    };
+    if let Some(entry) = task.trail.last() {
+        (task.see)(Mark::Message(entry, side));
+    }
+    Ok(Some((side, identity)))
+}
+
+/// The bytes of a file that this window holds.
+fn file_of(memory: &mut Memory, side: Side, file: u64) -> &mut [u8] {
+    let window = memory.window_mut(side);
+    let offset = (file - window.start) as usize;
+    &mut window.bytes[offset..offset + FILE_SIZE as usize]
+}
+
+/// Where a file lies that is in neither window, for coverage; empty windows don't count.
+enum Outside {
+    Empty,
+    Below,
+    Between,
+    Above,
+}
+
+fn outside(memory: &Memory, file: u64) -> Outside {
+    let windows = [&memory.first, &memory.second];
+    let there = || windows.iter().filter(|window| !window.bytes.is_empty());
+    match (there().count(), there().filter(|w| w.start > file).count()) {
+        (0, _) => Outside::Empty,
+        (_, 0) => Outside::Above,
+        (all, above) if all == above => Outside::Below,
+        _ => Outside::Between,
     }
 }
 
@@ -357,9 +416,9 @@ fn note_store(task: &mut Task, guest: u64, identity: u64, notice_number: u64) {
 }
 
 /// The store itself: the only change that a request makes.
-fn store(start: u64, window: &mut [u8], place: &Store, see: See) -> Answer {
-    let offset = (place.file - start) as usize;
-    let was_pending = file::store(&mut window[offset..offset + 512], place.identity);
+fn store(memory: &mut Memory, place: &Store, see: See) -> Answer {
+    let bytes = file_of(memory, place.side, place.file);
+    let was_pending = file::store(bytes, place.identity);
     see(Mark::Point(match was_pending {
         true => Point::StoreMerged,
         false => Point::StoreNew,
@@ -371,37 +430,46 @@ fn store(start: u64, window: &mut [u8], place: &Store, see: See) -> Answer {
     }
 }
 
-/// Check 2008.
-fn broken_file(start: u64, window: &[u8], file: u64) -> Option<Broken> {
-    let view = Window {
-        start,
-        bytes: window,
+/// The window of a take's or a report's file, or check 2008. 02, Req 05: it considers both windows.
+fn find_file(memory: &Memory, file: u64) -> Result<Side, Broken> {
+    if !file.is_multiple_of(FILE_SIZE) {
+        return Err((2008, Point::R2008Misaligned));
+    }
+    let point = match outside(memory, file) {
+        Outside::Empty => Point::R2008Empty,
+        Outside::Below => Point::R2008Below,
+        Outside::Between => Point::R2008Between,
+        Outside::Above => Point::R2008Above,
     };
-    let outside = !view.holds(file, FILE_SIZE);
-    let point = first_broken(&[
-        (!file.is_multiple_of(FILE_SIZE), Point::R2008Misaligned),
-        (window.is_empty(), Point::R2008Empty),
-        (outside && file < start, Point::R2008Below),
-        (outside, Point::R2008Above),
-    ])?;
-    Some((2008, point))
+    memory.holder(file, FILE_SIZE).ok_or((2008, point))
+}
+
+/// Tells the observer where an aligned file is, and where it was found, of windows that are legal.
+fn note_file(purpose: Purpose, memory: &Memory, file: u64, found: Option<Side>, see: See) {
+    if file.is_multiple_of(FILE_SIZE) {
+        see(Mark::File(purpose, Place::of(memory, file), found));
+    }
 }
 
 /// The take of one pending interrupt.
-pub fn take(start: u64, window: &mut [u8], file: u64, identity: u64) -> Answer {
-    take_observed(start, window, file, identity, &mut |_| {})
+pub fn take(memory: &mut Memory, file: u64, identity: u64) -> Answer {
+    take_observed(memory, file, identity, &mut |_| {})
 }
 
 /// The take; the observer is told of each check that decides.
-pub fn take_observed(start: u64, window: &mut [u8], file: u64, identity: u64, see: See) -> Answer {
-    let mut broken = Vec::from_iter(broken_window(start, window.len()));
-    broken.extend(broken_file(start, window, file));
-    broken.extend((identity > 2_047).then_some((2009, Point::R2009)));
-    if let Some(number) = refuse(Asked::Take, &broken, see) {
-        return Answer::Refused(number);
+pub fn take_observed(memory: &mut Memory, file: u64, identity: u64, see: See) -> Answer {
+    let found = find_file(memory, file);
+    let mut broken = broken_windows(memory);
+    if broken.is_empty() {
+        note_file(Purpose::Take, memory, file, found.ok(), see);
     }
-    let offset = (file - start) as usize;
-    let was_pending = file::take(&mut window[offset..offset + 512], identity);
+    broken.extend(found.err());
+    broken.extend((identity > 2_047).then_some((2009, Point::R2009)));
+    let side = match (refuse(Asked::Take, memory, &broken, see), found) {
+        (None, Ok(side)) => side,
+        (number, _) => return Answer::Refused(number.unwrap_or(2008)),
+    };
+    let was_pending = file::take(file_of(memory, side, file), identity);
     see(Mark::Point(match was_pending {
         true => Point::TakeOfOne,
         false => Point::TakeOfZero,
@@ -410,25 +478,31 @@ pub fn take_observed(start: u64, window: &mut [u8], file: u64, identity: u64, se
 }
 
 /// The report of one file.
-pub fn report(start: u64, window: &[u8], file: u64) -> Report {
-    report_observed(start, window, file, &mut |_| {})
+pub fn report(memory: &Memory, file: u64) -> Report {
+    report_observed(memory, file, &mut |_| {})
 }
 
 /// The report; the observer is told of each check that decides.
-pub fn report_observed(start: u64, window: &[u8], file: u64, see: See) -> Report {
+pub fn report_observed(memory: &Memory, file: u64, see: See) -> Report {
     let mut report = Report {
         refusal: 0,
         count: 0,
         pairs: [Pair::default(); 32],
     };
-    let mut broken = Vec::from_iter(broken_window(start, window.len()));
-    broken.extend(broken_file(start, window, file));
-    if let Some(number) = refuse(Asked::Report, &broken, see) {
+    let found = find_file(memory, file);
+    let mut broken = broken_windows(memory);
+    if broken.is_empty() {
+        note_file(Purpose::Report, memory, file, found.ok(), see);
+    }
+    broken.extend(found.err());
+    if let Some(number) = refuse(Asked::Report, memory, &broken, see) {
         report.refusal = number;
         return report;
     }
-    let offset = (file - start) as usize;
-    report.pairs = file::pairs(&window[offset..offset + 512]);
+    let bytes = found
+        .ok()
+        .and_then(|side| memory.window(side).part(file, FILE_SIZE));
+    report.pairs = bytes.map_or(report.pairs, file::pairs);
     report.count = file::count(&report.pairs);
     see(Mark::Point(Point::ReportMade));
     report
@@ -437,6 +511,7 @@ pub fn report_observed(start: u64, window: &[u8], file: u64, see: See) -> Report
 #[cfg(test)]
 mod tests {
     use super::{report, request, take};
+    use crate::memory::{Memory, Window};
     use crate::random::Random;
     use crate::types::{Access, Request, Settings};
 
@@ -453,32 +528,39 @@ mod tests {
         }
     }
 
+    /// A window with free bytes: mostly whole pages near 0, at times any.
+    fn any_window(random: &mut Random) -> Window {
+        let length = random.pick(&[0, 1, 512, 4_095, 4_096, 4_096, 8_192, 8_192]);
+        let full = random.number() | random.number();
+        let start = match random.below(100) {
+            0..=44 => 0,
+            45..=69 => random.below(5) * 4_096,
+            _ => any(random),
+        };
+        Window {
+            start,
+            bytes: (0..length).map(|n| (full >> (n % 61)) as u8).collect(),
+        }
+    }
+
     /// Any input is answered: wholly free arguments over free bytes.
     #[test]
     fn every_input_is_answered() {
         let mut random = Random::new(3, 3);
         for _ in 0..60_000 {
-            let length = random.pick(&[0, 1, 512, 4_095, 4_096, 4_096, 8_192, 8_192]);
-            let full = random.number() | random.number();
-            let mut window: Vec<u8> = (0..length).map(|n| (full >> (n % 61)) as u8).collect();
-            let start = if random.chance(70) {
-                0
-            } else {
-                any(&mut random)
+            let mut memory = Memory {
+                first: any_window(&mut random),
+                second: any_window(&mut random),
             };
-            let settings = Settings {
-                start,
-                mode: if random.chance(80) {
-                    2
+            let [mode, root] = [(80, 2), (70, 0)].map(|(percent, usual)| {
+                let other = any(&mut random);
+                if random.chance(percent) {
+                    usual
                 } else {
-                    any(&mut random)
-                },
-                root: if random.chance(70) {
-                    0
-                } else {
-                    any(&mut random)
-                },
-            };
+                    other
+                }
+            });
+            let settings = Settings { mode, root };
             let process = any(&mut random);
             let asked = Request {
                 device_id: any(&mut random),
@@ -488,10 +570,10 @@ mod tests {
                 address: any(&mut random),
                 length: any(&mut random),
             };
-            request(&settings, &mut window, &asked, random.number() as u32);
+            request(&settings, &mut memory, &asked, random.number() as u32);
             let (file, identity) = (any(&mut random), any(&mut random));
-            take(start, &mut window, file, identity);
-            report(start, &window, file);
+            take(&mut memory, file, identity);
+            report(&memory, file);
         }
     }
 }

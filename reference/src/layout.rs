@@ -1,41 +1,42 @@
-//! A window under construction: doublewords are put at addresses.
+//! Windows under construction: doublewords are put at addresses.
 
-use crate::memory::Window;
+use crate::memory::{Memory, Window};
 
 #[derive(Clone, Debug)]
 pub struct Layout {
-    pub start: u64,
-    pub bytes: Vec<u8>,
+    pub memory: Memory,
 }
 
 impl Layout {
-    /// A window of zero bytes.
+    /// A first window of zero bytes; the second is empty, at 0.
     pub fn new(start: u64, pages: u64) -> Layout {
-        Layout {
+        Layout::of_two([(start, pages), (0, 0)])
+    }
+
+    /// Two windows of zero bytes, each with its start and pages.
+    pub fn of_two(places: [(u64, u64); 2]) -> Layout {
+        let [first, second] = places.map(|(start, pages)| Window {
             start,
             bytes: vec![0; pages as usize * 4_096],
+        });
+        Layout {
+            memory: Memory { first, second },
         }
     }
 
-    /// The window as a request sees it.
-    pub fn window(&self) -> Window<'_> {
-        Window {
-            start: self.start,
-            bytes: &self.bytes,
-        }
-    }
-
-    /// Puts a doubleword; one outside the window is dropped.
+    /// Puts a doubleword; one outside both windows is dropped.
     pub fn put(&mut self, address: u64, value: u64) {
-        if self.window().holds(address, 8) {
-            let offset = (address - self.start) as usize;
-            self.bytes[offset..offset + 8].copy_from_slice(&value.to_le_bytes());
+        let Some(side) = self.memory.holder(address, 8) else {
+            return;
+        };
+        if let Some(bytes) = self.memory.window_mut(side).part_mut(address, 8) {
+            bytes.copy_from_slice(&value.to_le_bytes());
         }
     }
 
-    /// The doubleword at an address; zero outside the window.
+    /// The doubleword at an address; zero outside both windows.
     pub fn get(&self, address: u64) -> u64 {
-        self.window().load(address).unwrap_or(0)
+        self.memory.load(address).unwrap_or(0)
     }
 }
 

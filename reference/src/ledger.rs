@@ -5,6 +5,7 @@ use std::collections::BTreeMap;
 
 use crate::file;
 use crate::generate::Call;
+use crate::memory::{Memory, Side, Window};
 use crate::message::identity_of;
 use crate::types::Answer;
 
@@ -18,21 +19,20 @@ pub struct Account {
     pub takes: u64,
 }
 
-/// The ledger of one list. Only the accounts that a call has touched are kept; every other mark
-/// stands as it started, with counts of 0.
+/// The ledger of one list. 02, Req 05: it covers files in either window, both windows at fixed places,
+/// and a file in both is counted in each by itself. Only the accounts that a call has touched are kept;
+/// every other mark stands as it started, with counts of 0.
 #[derive(Clone, Debug)]
 pub struct Ledger {
-    start: u64,
-    starting: Vec<u8>,
-    accounts: BTreeMap<(u64, u64), Account>,
+    starting: Memory,
+    accounts: BTreeMap<(Side, u64, u64), Account>,
 }
 
 impl Ledger {
     /// A mark starts as the pending bit, each count at 0.
-    pub fn new(start: u64, starting: &[u8]) -> Ledger {
+    pub fn new(starting: &Memory) -> Ledger {
         Ledger {
-            start,
-            starting: starting.to_vec(),
+            starting: starting.clone(),
             accounts: BTreeMap::new(),
         }
     }
@@ -63,11 +63,22 @@ impl Ledger {
         }
     }
 
-    /// The account of a file and identity of the window.
+    /// The window that a file lies in; an error where it is in neither, or in both, where every call is
+    /// refused.
+    fn side(&self, file: u64) -> Result<Side, String> {
+        let lies = |side: &Side| file_bytes(self.starting.window(*side), file).is_some();
+        let sides: Vec<Side> = Side::ALL.iter().copied().filter(lies).collect();
+        match sides[..] {
+            [side] => Ok(side),
+            [] => Err(format!("{file} is no file of the windows")),
+            _ => Err(format!("{file} is in both windows")),
+        }
+    }
+
+    /// The account of a file and identity, in the window that the file lies in.
     fn account(&mut self, file: u64, identity: u64) -> Result<&mut Account, String> {
-        let Some(bytes) = file_bytes(self.start, &self.starting, file) else {
-            return Err(format!("{file} is no file of the window"));
-        };
+        let side = self.side(file)?;
+        let bytes = file_bytes(self.starting.window(side), file).unwrap_or(&[]);
         if identity > 2_047 {
             return Err(format!("{identity} is no identity"));
         }
@@ -79,29 +90,30 @@ impl Ledger {
             merged: 0,
             takes: 0,
         };
-        Ok(self.accounts.entry((file, identity)).or_insert(fresh))
+        Ok(self.accounts.entry((side, file, identity)).or_insert(fresh))
     }
 
     /// After the list: each pending bit is 1 exactly when its mark is waiting, and the sums hold
     /// for each identity, for each file and over all files.
-    pub fn close(&self, ending: &[u8]) -> Result<(), String> {
-        if ending.len() != self.starting.len() {
-            return Err("the window's length changed".to_string());
+    pub fn close(&self, ending: &Memory) -> Result<(), String> {
+        for &side in Side::ALL {
+            let (before, after) = (self.starting.window(side), ending.window(side));
+            if (before.start, before.bytes.len()) != (after.start, after.bytes.len()) {
+                return Err(format!("the {} window's place changed", side.name()));
+            }
+            self.close_marks(side, after)?;
         }
-        self.close_marks(ending)?;
         self.close_sums(ending)
     }
 
-    /// Marks and pending bits, file by file.
-    fn close_marks(&self, ending: &[u8]) -> Result<(), String> {
-        for file in files(self.start, ending.len()) {
-            let before = file_bytes(self.start, &self.starting, file).unwrap_or(&[]);
-            let after = file_bytes(self.start, ending, file).unwrap_or(&[]);
-            if before == after {
-                continue;
-            }
+    /// Marks and pending bits of one window, file by file.
+    fn close_marks(&self, side: Side, ending: &Window) -> Result<(), String> {
+        let starting = self.starting.window(side);
+        for file in changed_files(starting, ending) {
+            let before = file_bytes(starting, file).unwrap_or(&[]);
+            let after = file_bytes(ending, file).unwrap_or(&[]);
             for identity in 0..2_048 {
-                let account = self.accounts.get(&(file, identity));
+                let account = self.accounts.get(&(side, file, identity));
                 let mark = account.map_or(is_pending(before, identity), |a| a.waiting);
                 if mark != is_pending(after, identity) {
                     return Err(format!("file {file} identity {identity}: mark {mark}"));
@@ -109,8 +121,9 @@ impl Ledger {
             }
         }
         // A file whose bytes are as they were has its touched marks as they were.
-        for ((file, identity), account) in &self.accounts {
-            let bytes = file_bytes(self.start, ending, *file).unwrap_or(&[]);
+        let all = (side, 0, 0)..=(side, u64::MAX, u64::MAX);
+        for ((_, file, identity), account) in self.accounts.range(all) {
+            let bytes = file_bytes(ending, *file).unwrap_or(&[]);
             if is_pending(bytes, *identity) != account.waiting {
                 return Err(format!("file {file} identity {identity}: mark"));
             }
@@ -119,23 +132,23 @@ impl Ledger {
     }
 
     /// Starting ones and stores equal merged stores, successful takes and ending ones.
-    fn close_sums(&self, ending: &[u8]) -> Result<(), String> {
-        let mut by_file: BTreeMap<u64, [u64; 3]> = BTreeMap::new();
-        for ((file, identity), account) in &self.accounts {
+    fn close_sums(&self, ending: &Memory) -> Result<(), String> {
+        let mut by_file: BTreeMap<(Side, u64), [u64; 3]> = BTreeMap::new();
+        for ((side, file, identity), account) in &self.accounts {
             let left = u64::from(account.started_waiting) + account.stores;
             let right = account.merged + account.takes + u64::from(account.waiting);
             if left != right {
                 return Err(format!("file {file} identity {identity}: {left}, {right}"));
             }
-            let sums = by_file.entry(*file).or_default();
+            let sums = by_file.entry((*side, *file)).or_default();
             sums[0] += account.stores;
             sums[1] += account.merged;
             sums[2] += account.takes;
         }
         let mut total = [0u64; 3];
-        for (file, sums) in &by_file {
-            let before = ones(self.start, &self.starting, *file);
-            let after = ones(self.start, ending, *file);
+        for ((side, file), sums) in &by_file {
+            let before = ones(self.starting.window(*side), *file);
+            let after = ones(ending.window(*side), *file);
             if before + sums[0] != sums[1] + sums[2] + after {
                 return Err(format!("the sums of file {file}"));
             }
@@ -143,25 +156,31 @@ impl Ledger {
                 total[place] += sums[place];
             }
         }
-        // A file whose bytes are as they were adds the same to both sides.
-        let (mut before, mut after) = (total[0], total[1] + total[2]);
-        for file in files(self.start, ending.len()) {
-            let bytes = |window| file_bytes(self.start, window, file);
-            if bytes(&self.starting) != bytes(ending) {
-                before += ones(self.start, &self.starting, file);
-                after += ones(self.start, ending, file);
-            }
-        }
-        if before != after {
-            return Err("the sums over all files".to_string());
-        }
-        Ok(())
+        self.close_total(ending, total)
     }
 
-    /// The number of marks of a file that are waiting.
+    /// The sums over all files of both windows, with the stores, merged stores and successful takes.
+    fn close_total(&self, ending: &Memory, total: [u64; 3]) -> Result<(), String> {
+        let (mut left, mut right) = (total[0], total[1] + total[2]);
+        // A file whose bytes are as they were adds the same to both sides.
+        for &side in Side::ALL {
+            let (before, after) = (self.starting.window(side), ending.window(side));
+            for file in changed_files(before, after) {
+                left += ones(before, file);
+                right += ones(after, file);
+            }
+        }
+        match left == right {
+            true => Ok(()),
+            false => Err("the sums over all files".to_string()),
+        }
+    }
+
+    /// The number of marks of a file that are waiting, in the window that it lies in.
     pub fn waiting(&self, file: u64) -> u64 {
-        let before = ones(self.start, &self.starting, file);
-        let touched = self.accounts.range((file, 0)..=(file, 2_047));
+        let Ok(side) = self.side(file) else { return 0 };
+        let before = ones(self.starting.window(side), file);
+        let touched = self.accounts.range((side, file, 0)..=(side, file, 2_047));
         let mut count = i128::from(before);
         for (_, account) in touched {
             count += i128::from(account.waiting) - i128::from(account.started_waiting);
@@ -170,25 +189,27 @@ impl Ledger {
     }
 }
 
-/// The files of a window: 512 bytes of it at multiples of 512.
-fn files(start: u64, length: usize) -> impl Iterator<Item = u64> {
-    let end = u128::from(start) + length as u128;
-    let first = u128::from(start).div_ceil(512);
-    let past = (end / 512).max(first);
-    (first..past).map(|number| (number * 512) as u64)
+/// The files of a window, 512 bytes of it at multiples of 512, whose bytes aren't the same in both.
+fn changed_files<'a>(before: &'a Window, after: &'a Window) -> impl Iterator<Item = u64> + 'a {
+    let first = u128::from(before.start).div_ceil(512);
+    let past = (before.end() / 512).max(first);
+    let numbers = if before == after { 0..0 } else { first..past };
+    numbers
+        .map(|number| (number * 512) as u64)
+        .filter(|file| file_bytes(before, *file) != file_bytes(after, *file))
 }
 
 /// The bytes of a file, where it lies in the window.
-fn file_bytes(start: u64, bytes: &[u8], file: u64) -> Option<&[u8]> {
-    if !file.is_multiple_of(512) || file < start {
+fn file_bytes(window: &Window, file: u64) -> Option<&[u8]> {
+    if !file.is_multiple_of(512) || file < window.start {
         return None;
     }
-    let offset = file - start;
+    let offset = file - window.start;
     let end = u128::from(offset) + 512;
-    if end > bytes.len() as u128 {
+    if end > window.bytes.len() as u128 {
         return None;
     }
-    Some(&bytes[offset as usize..offset as usize + 512])
+    Some(&window.bytes[offset as usize..offset as usize + 512])
 }
 
 /// An interrupt is pending when its bit is 1.
@@ -199,8 +220,8 @@ fn is_pending(file: &[u8], identity: u64) -> bool {
 }
 
 /// The number of pending bits of a file.
-fn ones(start: u64, bytes: &[u8], file: u64) -> u64 {
-    match file_bytes(start, bytes, file) {
+fn ones(window: &Window, file: u64) -> u64 {
+    match file_bytes(window, file) {
         Some(bytes) => file::count(&file::pairs(bytes)),
         None => 0,
     }

@@ -22,6 +22,7 @@ pub mod mark;
 pub mod memory;
 pub mod message;
 pub mod paging;
+pub mod placement;
 pub mod process;
 pub mod random;
 pub mod scheme;
@@ -29,7 +30,10 @@ pub mod scheme_check;
 pub mod task;
 pub mod text;
 pub mod types;
+pub mod window_check;
+pub mod windows;
 pub mod world;
 
 pub use iommu::{report, request, take};
+pub use memory::{Memory, Window};
 pub use types::{Access, Answer, Pair, Report, Request, Settings, Stage};

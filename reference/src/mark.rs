@@ -1,7 +1,9 @@
 //! Marks: the names of the sub-checks and outcomes that a call passes, for coverage.
 
+use crate::memory::Side;
 use crate::scheme::{self, of_mode, page_bits, Scheme};
 use crate::types::{Access, Stage};
+use crate::windows::{self, Lie, Over, Place, Purpose, Table};
 
 macro_rules! named {
     ($(#[$note:meta])* $type:ident { $($variant:ident = $name:literal),* $(,)? }) => {
@@ -60,9 +62,13 @@ named!(
 named!(
     /// Everything that stands alone.
     Point {
-        R2001Start = "2001 start misaligned",
-        R2001Length = "2001 length misaligned",
-        R2001High = "2001 end above 2^56",
+        R2001FirstStart = "2001 first window, start misaligned",
+        R2001FirstLength = "2001 first window, length misaligned",
+        R2001FirstHigh = "2001 first window, end above 2^56",
+        R2001SecondStart = "2001 second window, start misaligned",
+        R2001SecondLength = "2001 second window, length misaligned",
+        R2001SecondHigh = "2001 second window, end above 2^56",
+        R2011 = "2011 the windows overlap",
         R2002Mode = "2002 mode above 4",
         R2002Root = "2002 root page number too wide",
         R2003 = "2003 device_id too wide",
@@ -70,17 +76,16 @@ named!(
         R2005 = "2005 supervisor without process_id",
         R2006Zero = "2006 length 0",
         R2006Crossing = "2006 crossing a page",
-        R2007Below = "2007 file below the window",
-        R2007Above = "2007 file above the window",
+        R2007Below = "2007 file below the windows",
+        R2007Between = "2007 file between the windows",
+        R2007Above = "2007 file above the windows",
         R2008Misaligned = "2008 file misaligned",
-        R2008Below = "2008 file below the window",
-        R2008Above = "2008 file above the window",
-        R2008Empty = "2008 empty window",
+        R2008Below = "2008 file below the windows",
+        R2008Between = "2008 file between the windows",
+        R2008Above = "2008 file above the windows",
+        R2008Empty = "2008 both windows empty",
         R2009 = "2009 identity above 2047",
-        RequestRefused2001 = "request refused 2001",
-        TakeRefused2001 = "take refused 2001",
         TakeRefused2008 = "take refused 2008",
-        ReportRefused2001 = "report refused 2001",
         ReportRefused2008 = "report refused 2008",
         ModeOff = "directory mode 0 Off",
         ModeBare = "directory mode 1 Bare",
@@ -189,7 +194,7 @@ named!(
         DiscardOffset = "discarded, offset",
         DiscardIdentity = "discarded, identity at offset 0",
         DiscardIdentityBig = "discarded, identity at offset 4",
-        DiscardOutside = "discarded, file outside the window",
+        DiscardOutside = "discarded, file outside both windows",
         TakeOfOne = "take of 1",
         TakeOfZero = "take of 0",
         ReportMade = "report made",
@@ -240,9 +245,9 @@ impl Asked {
     /// 01, the table of refusals: the call's checks before any other step, in order.
     fn checks(self) -> &'static [u64] {
         match self {
-            Asked::Request => &[2001, 2002, 2003, 2004, 2005, 2006],
-            Asked::Take => &[2001, 2008, 2009],
-            Asked::Report => &[2001, 2008],
+            Asked::Request => &[2001, 2011, 2002, 2003, 2004, 2005, 2006],
+            Asked::Take => &[2001, 2011, 2008, 2009],
+            Asked::Report => &[2001, 2011, 2008],
         }
     }
 }
@@ -363,6 +368,18 @@ pub enum Mark {
     Recognised(u64, u64, bool),
     /// The highest one of a recognised page number, and the word that it stands in.
     TopBit(Word, u32),
+    /// A call by how its windows lie, and its refusal by 2001 or 2011, or 0.
+    Windows(Asked, Lie, u64),
+    /// A table's entry by where it is, and the window in which it was found.
+    Load(Table, Place, Option<Side>),
+    /// An entry of the one table in this window, and the next load, of the other table, in the other.
+    Crossed(Table, Table, Side),
+    /// A file by where it is, and the window in which it was found.
+    File(Purpose, Place, Option<Side>),
+    /// A store by the windows of the message entry and of the file.
+    Message(Side, Side),
+    /// An answer's number, and the windows of the request's tables.
+    Ended(u64, Over),
     /// A cause, and the stage that found it.
     Cause(Stage, u64),
 }
@@ -573,6 +590,7 @@ impl Mark {
         marks.append(&mut page_marks());
         marks.append(&mut message_marks());
         marks.append(&mut passed_marks());
+        marks.append(&mut windows::marks());
         for (stage, causes) in CAUSES {
             marks.extend(causes.iter().map(|cause| Mark::Cause(stage, *cause)));
         }
@@ -599,6 +617,11 @@ impl Mark {
             Mark::Misaligned(..) => "misaligned large pages",
             Mark::Recognised(..) | Mark::TopBit(..) => "recognised addresses",
             Mark::Passed(..) => "translated, by the page of each stage",
+            Mark::Windows(..) => "how the windows lie",
+            Mark::Load(..) => "loads by window",
+            Mark::Crossed(..) => "loads from window to window",
+            Mark::File(..) | Mark::Message(..) => "files by window",
+            Mark::Ended(..) => "answers by the windows of the tables",
             Mark::Cause(..) => "cause by stage",
         }
     }
@@ -637,12 +660,48 @@ impl Mark {
                 format!("{first} on {}", page_name(&scheme::SECOND, second))
             }
             Mark::Recognised(first, second, beyond) => recognised_name(first, second, beyond),
-            Mark::TopBit(word, top) => {
-                let bit = page_bits(0) + top;
-                format!("highest one at address bit {bit}, in the {}", word.name())
-            }
+            Mark::TopBit(word, top) => top_bit_name(word, top),
             Mark::Cause(stage, cause) => format!("{}: {cause}", stage.name()),
+            _ => self.window_name(),
         }
+    }
+
+    /// The name of a mark about the windows.
+    fn window_name(self) -> String {
+        match self {
+            Mark::Windows(asked, lie, refusal) => {
+                let word = match refusal {
+                    0 => "legal".to_string(),
+                    _ => format!("refused {refusal}"),
+                };
+                format!("{}: {}: {word}", asked.name(), lie.name())
+            }
+            Mark::Load(table, place, found) => {
+                format!("{} {}: {}", table.name(), place.name(), found_name(found))
+            }
+            Mark::Crossed(from, to, side) => {
+                let (from, to) = (from.name(), to.name());
+                format!("from a {from} in the {} window to a {to}", side.name())
+            }
+            Mark::File(purpose, place, found) => {
+                let word = found_name(found);
+                format!("{} of a file {}: {word}", purpose.name(), place.name())
+            }
+            Mark::Message(entry, file) => {
+                let (entry, file) = (entry.name(), file.name());
+                format!("stored, message entry in the {entry} window, file in the {file}")
+            }
+            Mark::Ended(answer, over) => format!("answer {answer}, {}", over.name()),
+            _ => String::new(),
+        }
+    }
+}
+
+/// Where something was found.
+fn found_name(found: Option<Side>) -> String {
+    match found {
+        Some(side) => format!("found in the {}", side.name()),
+        None => "not found".to_string(),
     }
 }
 
@@ -652,6 +711,12 @@ fn recognised_name(first: u64, second: u64, beyond: bool) -> String {
     let second = scheme_name(&scheme::SECOND, second);
     let place = if beyond { "beyond" } else { "within" };
     format!("{first} on {second}: {place} the guest limit")
+}
+
+/// The highest bit of a recognised address, and its word.
+fn top_bit_name(word: Word, top: u32) -> String {
+    let bit = page_bits(0) + top;
+    format!("highest one at address bit {bit}, in the {}", word.name())
 }
 
 /// The scheme of a stage and the size of its page.

@@ -1,9 +1,11 @@
 //! Messages (003, Process to translate addresses of MSIs; 000, 8.1.4 and 8.1.5; 01, Messages).
 
 use crate::device::{page_number, DeviceContext};
+use crate::file::read;
 use crate::mark::Point;
 use crate::task::{first_broken, Task};
 use crate::types::{bit, bits, page_address, Access, Stage, Step};
+use crate::windows::Table;
 
 /// What a valid message entry says.
 #[derive(Clone, Copy, Debug, PartialEq, Eq)]
@@ -80,9 +82,10 @@ pub fn locate(task: &mut Task, context: &DeviceContext, guest: u64) -> Step<Mess
 /// 003, Process to translate addresses of MSIs, steps 7 to 14.
 fn load_entry(task: &mut Task, address: u64) -> Step<MessageEntry> {
     // Step 7.
-    let Some(first) = task.window.load(address) else {
+    let Some(entry) = task.entry(Table::Message, address, 16) else {
         return task.end(Point::F261, 261, Stage::MessageTable);
     };
+    let [first, second] = [read(entry), read(&entry[8..])];
     // Step 9.
     if !bit(first, 0) {
         return task.end(Point::F262, 262, Stage::MessageTable);
@@ -96,7 +99,7 @@ fn load_entry(task: &mut Task, address: u64) -> Step<MessageEntry> {
         0 => task.end(Point::F263Mode0, 263, Stage::MessageTable),
         2 => task.end(Point::F263Mode2, 263, Stage::MessageTable),
         3 => redirect_entry(task, first),
-        _ => file_entry(task, first, address),
+        _ => file_entry(task, first, second),
     }
 }
 
@@ -114,10 +117,7 @@ fn redirect_entry(task: &mut Task, first: u64) -> Step<MessageEntry> {
 }
 
 /// 003, step 14; 000, 8.1.5.2: memory-resident interrupt file mode.
-fn file_entry(task: &mut Task, first: u64, address: u64) -> Step<MessageEntry> {
-    let Some(second) = task.window.load(address + 8) else {
-        return task.end(Point::F261, 261, Stage::MessageTable);
-    };
+fn file_entry(task: &mut Task, first: u64, second: u64) -> Step<MessageEntry> {
     let broken = first_broken(&[
         (bits(first, 6, 3) != 0, Point::F263Mode1Low),
         (bits(first, 62, 54) != 0, Point::F263Mode1High),

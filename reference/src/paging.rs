@@ -5,6 +5,7 @@ use crate::scheme::{page_bits, Scheme};
 use crate::task::Task;
 use crate::types::{access_fault, bit, bits, fault, guest_page_fault, page_address, page_fault};
 use crate::types::{Access, Answer, Request, Stage, Step};
+use crate::windows::Table;
 
 /// The root of one stage's tables.
 #[derive(Clone, Copy, Debug, PartialEq, Eq)]
@@ -149,7 +150,11 @@ fn load_entry(task: &mut Task, walker: &Walker, address: u64) -> Step<u64> {
         Some(root) => walk_second(task, root, Walk::SecondForFirst, walker.sum, address)?.address,
         None => address,
     };
-    match task.window.load(place) {
+    let table = match walker.walk {
+        Walk::First => Table::FirstStage,
+        _ => Table::SecondStage,
+    };
+    match task.load(table, place) {
         Some(entry) => Ok(entry),
         None => Err(violation_of(task, walker.walk)),
     }

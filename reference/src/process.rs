@@ -1,11 +1,13 @@
 //! Process directory and process context (003, Process-Directory-Table; 01, Directories).
 
 use crate::device::{mode, page_number, DeviceContext};
+use crate::file::read;
 use crate::mark::{Field, Point, Setting, Walk};
 use crate::paging;
 use crate::scheme::{self, is_mode};
 use crate::task::{first_broken, Task};
 use crate::types::{bit, bits, page_address, Stage, Step};
+use crate::windows::Table;
 
 /// The two doublewords of a process context.
 #[derive(Clone, Copy, Debug, PartialEq, Eq)]
@@ -93,7 +95,7 @@ fn translate(task: &mut Task, context: &DeviceContext, a: u64) -> Step<u64> {
 /// 003, Process to locate the Process-context, steps 5 to 9: one non-leaf entry's page number.
 fn load_non_leaf(task: &mut Task, address: u64) -> Step<u64> {
     // Step 5.
-    let Some(pdte) = task.window.load(address) else {
+    let Some(pdte) = task.load(Table::ProcessPointer, address) else {
         return task.end(Point::F265NonLeaf, 265, Stage::ProcessDirectory);
     };
     // Step 7.
@@ -115,16 +117,14 @@ fn load_non_leaf(task: &mut Task, address: u64) -> Step<u64> {
 /// 003, Process to locate the Process-context, steps 10 to 13.
 fn load_context(task: &mut Task, address: u64) -> Step<ProcessContext> {
     // Step 10.
-    let Some(ta) = task.window.load(address) else {
+    let Some(entry) = task.entry(Table::ProcessContext, address, 16) else {
         return task.end(Point::F265Context, 265, Stage::ProcessDirectory);
     };
+    let [ta, fsc] = [read(entry), read(&entry[8..])];
     // Step 11.
     if !bit(ta, 0) {
         return task.end(Point::F266Context, 266, Stage::ProcessDirectory);
     }
-    let Some(fsc) = task.window.load(address + 8) else {
-        return task.end(Point::F265Context, 265, Stage::ProcessDirectory);
-    };
     let context = ProcessContext { ta, fsc };
     // Step 12.
     let broken = misconfigured(&context);

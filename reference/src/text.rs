@@ -1,8 +1,9 @@
-//! Lists as plain text: one line for the window, one for each doubleword that isn't zero, one for
-//! each call with its answer.
+//! Lists as plain text: one line for each of the two windows, after it one for each of its doublewords
+//! that isn't zero, then one for each call with its answer.
 //!
 //! ```text
-//! list INDEX start START length LENGTH
+//! list INDEX
+//! first|second START LENGTH
 //! word OFFSET VALUE                      (hexadecimal)
 //! byte OFFSET VALUE                      (hexadecimal; only where the length leaves a rest)
 //! request MODE ROOT DEVICE PROCESS|- user|supervisor ACCESS ADDRESS LENGTH DATA = ANSWER
@@ -16,30 +17,40 @@
 use crate::coverage::run_call;
 use crate::file;
 use crate::generate::{Call, List};
+use crate::memory::{Memory, Side, Window};
 use crate::types::{Access, Answer, Request};
 
 /// A list's text, with the answers that this program gives.
 pub fn write_list(index: u64, list: &List) -> String {
-    let length = list.window.len();
-    let mut text = format!("list {index} start {} length {length}\n", list.start);
+    let mut memory = list.memory.clone();
+    let mut text = format!("list {index}\n");
+    for &side in Side::ALL {
+        text += &write_window(side, memory.window(side));
+    }
+    for call in &list.calls {
+        let answer = run_call(&mut memory, call, &mut |_| {});
+        text += &format!("{} = {}\n", write_call(call), write_answer(answer));
+    }
+    text + "end\n"
+}
+
+/// A window's text.
+fn write_window(side: Side, window: &Window) -> String {
+    let length = window.bytes.len();
+    let mut text = format!("{} {} {length}\n", side.name(), window.start);
     let whole = length - length % 8;
-    for (number, bytes) in list.window[..whole].chunks(8).enumerate() {
+    for (number, bytes) in window.bytes[..whole].chunks(8).enumerate() {
         let value = file::read(bytes);
         if value != 0 {
             text += &format!("word {:x} {value:x}\n", number * 8);
         }
     }
-    for (number, byte) in list.window[whole..].iter().enumerate() {
+    for (number, byte) in window.bytes[whole..].iter().enumerate() {
         if *byte != 0 {
             text += &format!("byte {:x} {byte:x}\n", whole + number);
         }
     }
-    let mut window = list.window.clone();
-    for call in &list.calls {
-        let answer = run_call(list.start, &mut window, call, &mut |_| {});
-        text += &format!("{} = {}\n", write_call(call), write_answer(answer));
-    }
-    text + "end\n"
+    text
 }
 
 /// A call's text.
@@ -92,6 +103,7 @@ pub struct Written {
 /// Reads a text and hands over list after list; an error names a line that can't be read.
 pub fn read_lists(text: &str, mut each: impl FnMut(Written)) -> Result<(), String> {
     let mut open: Option<Written> = None;
+    let mut side = Side::First;
     for line in text.lines().filter(|line| !line.starts_with('#')) {
         let broken = || format!("can't read: {line}");
         let (left, right) = line.split_once(" = ").unwrap_or((line, ""));
@@ -102,9 +114,14 @@ pub fn read_lists(text: &str, mut each: impl FnMut(Written)) -> Result<(), Strin
             continue;
         }
         let written = open.as_mut().ok_or_else(broken)?;
+        let memory = &mut written.list.memory;
         match words[0] {
+            "first" | "second" => {
+                side = Side::ALL[usize::from(words[0] == "second")];
+                *memory.window_mut(side) = read_window(&words).ok_or_else(broken)?;
+            }
             "word" | "byte" => {
-                read_bytes(&words, &mut written.list.window).ok_or_else(broken)?;
+                read_bytes(&words, &mut memory.window_mut(side).bytes).ok_or_else(broken)?;
             }
             "request" | "take" => {
                 let call = read_call(&words).ok_or_else(broken)?;
@@ -136,7 +153,7 @@ pub fn rerun(text: &str) -> Result<Rerun, String> {
         result.lists += 1;
         let mut list = written.list;
         for (call, expected) in list.calls.iter().zip(&written.answers) {
-            let answer = run_call(list.start, &mut list.window, call, &mut |_| {});
+            let answer = run_call(&mut list.memory, call, &mut |_| {});
             result.calls += 1;
             if write_answer(answer) != *expected {
                 let line = format!("{} = {expected}", write_call(call));
@@ -147,17 +164,11 @@ pub fn rerun(text: &str) -> Result<Rerun, String> {
     Ok(result)
 }
 
-/// A list's first line: its window is zero, and it has no calls yet.
+/// A list's first line: its windows are empty, and it has no calls yet.
 fn read_head(words: &[&str]) -> Option<Written> {
     let index = words.get(1)?.parse().ok()?;
-    let start = words.get(3)?.parse().ok()?;
-    let length: usize = words.get(5)?.parse().ok()?;
-    if length > 1 << 24 {
-        return None;
-    }
     let list = List {
-        start,
-        window: vec![0; length],
+        memory: Memory::default(),
         calls: Vec::new(),
     };
     Some(Written {
@@ -167,7 +178,18 @@ fn read_head(words: &[&str]) -> Option<Written> {
     })
 }
 
-/// A doubleword or a byte put into the window.
+/// A window's start and length: its bytes are zero.
+fn read_window(words: &[&str]) -> Option<Window> {
+    let start = words.get(1)?.parse().ok()?;
+    let length: usize = words.get(2)?.parse().ok()?;
+    if length > 1 << 24 {
+        return None;
+    }
+    let bytes = vec![0; length];
+    Some(Window { start, bytes })
+}
+
+/// A doubleword or a byte put into a window.
 fn read_bytes(words: &[&str], window: &mut [u8]) -> Option<()> {
     let offset = usize::from_str_radix(words.get(1)?, 16).ok()?;
     let value = u64::from_str_radix(words.get(2)?, 16).ok()?;
@@ -228,6 +250,14 @@ mod tests {
         });
         assert_eq!((read, index), (Ok(()), 200));
         assert!(read_lists("take 1 2 = 5 2001 0 0", |_| {}).is_err());
+        for line in [
+            "list 0\nfirst 0",
+            "list 0\nthird 0 8",
+            "list 0\nword 0 1",
+            "list 0\nfirst 0 16\nsecond 0 8\nword 8 1",
+        ] {
+            assert!(read_lists(line, |_| {}).is_err(), "{line}");
+        }
     }
 
     #[test]

@@ -1,9 +1,8 @@
 //! What a call is given and what it answers (01, What a request holds).
 
-/// The window's start, the directory mode and the root page number.
+/// The directory mode and the root page number.
 #[derive(Clone, Copy, Debug, PartialEq, Eq)]
 pub struct Settings {
-    pub start: u64,
     pub mode: u64,
     pub root: u64,
 }

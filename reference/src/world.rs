@@ -1,7 +1,9 @@
 //! Valid tables for the generator: directories, contexts, page tables, message tables and files.
 
 use crate::layout::{leaf, pointer, root_of, Layout, ALL_FLAGS};
+use crate::memory::Side;
 use crate::paging::Root;
+use crate::placement::{choose_plan, choose_spots, Plan, Role};
 use crate::random::Random;
 use crate::scheme::{size, Scheme, FIRST, SECOND};
 
@@ -16,12 +18,26 @@ pub enum Place {
     MessageEntry(u64),
 }
 
-/// A second stage: its root, and how the window's own pages are mapped for tables.
+/// Guest addresses, from a base on, that map the addresses from a low one on, for tables.
+#[derive(Clone, Copy, Debug)]
+pub struct Region {
+    base: u64,
+    low: u64,
+    span: u64,
+}
+
+impl Region {
+    fn holds(&self, guest: u64) -> bool {
+        guest.wrapping_sub(self.base) < self.span
+    }
+}
+
+/// A second stage: its root, and how the pages of each window are mapped for tables.
 #[derive(Clone, Copy, Debug)]
 pub struct Space {
     pub root: Root,
     pub table_level: u64,
-    pub table_base: u64,
+    pub regions: [Region; 2],
 }
 
 /// The message context of a device.
@@ -52,7 +68,9 @@ pub struct World {
     pub layout: Layout,
     pub mode: u64,
     pub root: u64,
-    pub free: Vec<u64>,
+    /// The free pages of each window.
+    free: [Vec<u64>; 2],
+    plan: Plan,
     pub places: Vec<Place>,
     pub targets: Vec<Target>,
     pub files: Vec<u64>,
@@ -83,20 +101,12 @@ fn deposit(value: u64, mask: u64) -> u64 {
 }
 
 impl World {
-    /// A window with a directory and up to three devices.
+    /// Two windows with a directory and up to three devices.
     pub fn new(mut random: Random) -> World {
-        let pages = match random.below(100) {
-            0..=1 => 0,
-            2..=3 => random.between(1, 6),
-            _ => random.between(16, 34),
-        };
-        let start = choose_start(&mut random, pages);
-        let layout = Layout::new(start, pages);
-        let mut free: Vec<u64> = (0..pages).map(|page| start + page * 4_096).collect();
-        for place in (1..free.len()).rev() {
-            let other = random.below(place as u64 + 1) as usize;
-            free.swap(place, other);
-        }
+        let spots = choose_spots(&mut random);
+        let plan = choose_plan(&mut random);
+        let layout = Layout::of_two(spots);
+        let free = spots.map(|(start, pages)| shuffled(&mut random, start, pages));
         let mode = random.between(2, 4);
         let high_ids = [random.pick(&[0, 1, 511]), random.below(512)];
         let mut world = World {
@@ -105,6 +115,7 @@ impl World {
             mode,
             root: 0,
             free,
+            plan,
             places: Vec::new(),
             targets: Vec::new(),
             files: Vec::new(),
@@ -122,7 +133,8 @@ impl World {
         } else {
             space
         };
-        self.root = self.page().unwrap_or(self.layout.start) >> 12;
+        let directory = self.page(Role::Directory);
+        self.root = directory.unwrap_or(self.layout.memory.first.start) >> 12;
         for _ in 0..self.random.between(1, 3) {
             let chosen = if self.random.chance(80) { space } else { other };
             self.add_device(chosen);
@@ -130,29 +142,68 @@ impl World {
         self.fill_rest();
     }
 
-    /// A free page, or none.
-    pub fn page(&mut self) -> Option<u64> {
-        self.free.pop()
+    /// The window for a role; any that has a page left, where its pages are strewn.
+    fn side(&mut self, role: Role) -> usize {
+        match self.plan[role as usize] {
+            Some(side) => side as usize,
+            None => {
+                let [first, second] = [0, 1].map(|side| self.free[side].len() as u64);
+                usize::from(self.random.below(first + second) >= first)
+            }
+        }
     }
 
-    /// Four free pages on 16 KiB.
+    /// A free page of the role's window, of the other one, or none.
+    pub fn page(&mut self, role: Role) -> Option<u64> {
+        let side = self.side(role);
+        let page = self.free[side].pop();
+        page.or_else(|| self.free[1 - side].pop())
+    }
+
+    /// A page of a process directory; at times the highest free one, so that a table region may end
+    /// with it.
+    fn process_page(&mut self) -> Option<u64> {
+        let side = self.side(Role::Process);
+        let pages = &mut self.free[side];
+        let highest = pages.iter().max().copied();
+        match highest {
+            Some(page) if self.random.chance(20) => {
+                pages.retain(|other| *other != page);
+                Some(page)
+            }
+            _ => self.page(Role::Process),
+        }
+    }
+
+    /// Four free pages on 16 KiB; adjacent windows may share them.
     fn second_stage_root(&mut self) -> Option<u64> {
-        let roots: Vec<u64> = self
-            .free
-            .iter()
-            .copied()
-            .filter(|page| page % 16_384 == 0)
-            .filter(|page| (1..4).all(|n| self.free.contains(&(page + n * 4_096))))
-            .collect();
-        let root = self.random.choose(&roots)?;
-        self.free.retain(|page| *page & !0x3FFF != root);
+        let side = self.side(Role::SecondStage);
+        let roots = |side: usize| -> Vec<u64> {
+            let aligned = self.free[side].iter().filter(|page| *page % 16_384 == 0);
+            aligned
+                .filter(|page| (1..4).all(|n| self.is_free(*page + n * 4_096)))
+                .copied()
+                .collect()
+        };
+        let found = [roots(side), roots(1 - side)];
+        let roots = found.iter().find(|roots| !roots.is_empty())?;
+        let root = self.random.choose(roots)?;
+        for pages in &mut self.free {
+            pages.retain(|page| *page & !0x3FFF != root);
+        }
         Some(root)
+    }
+
+    fn is_free(&self, page: u64) -> bool {
+        self.free.iter().any(|pages| pages.contains(&page))
     }
 
     /// One or two pages of interrupt files, at times with bits set.
     fn add_files(&mut self) {
         for _ in 0..self.random.between(1, 2) {
-            let Some(page) = self.page() else { return };
+            let Some(page) = self.page(Role::Files) else {
+                return;
+            };
             let some_set = self.random.chance(40);
             for file in 0..8 {
                 self.files.push(page + file * 512);
@@ -171,7 +222,7 @@ impl World {
         if !self.random.chance(10) {
             return;
         }
-        for page in self.free.clone() {
+        for page in self.free.concat() {
             for word in 0..512 {
                 let value = self.random.number() & self.random.number();
                 self.layout.put(page + word * 8, value | 1);
@@ -187,19 +238,51 @@ impl World {
         Some(Space {
             root: Root { scheme, table },
             table_level,
-            table_base: self.table_base(scheme, table_level),
+            regions: self.regions(scheme, table_level),
         })
     }
 
-    /// The guest address from which on pages of a level map the window; at times it ends at the
+    /// The guest addresses by which pages of a level map the windows: one region for both, where they
+    /// are near, else one for each.
+    fn regions(&mut self, scheme: &Scheme, level: u64) -> [Region; 2] {
+        let ends = Side::ALL.iter().map(|side| {
+            let window = self.layout.memory.window(*side);
+            (window.start, window.start + window.bytes.len() as u64)
+        });
+        let ends: Vec<(u64, u64)> = ends.collect();
+        let low = ends[0].0.min(ends[1].0);
+        let high = ends[0].1.max(ends[1].1);
+        if high - low < 128 * 4_096 {
+            return [self.region(scheme, level, low, high); 2];
+        }
+        let first = self.region(scheme, level, ends[0].0, ends[0].1);
+        let mut second = first;
+        // Another base, until they don't meet.
+        for _ in 0..5 {
+            second = self.region(scheme, level, ends[1].0, ends[1].1);
+            if !first.holds(second.base) && !second.holds(first.base) {
+                break;
+            }
+        }
+        [first, second]
+    }
+
+    /// The guest addresses for those from start to end.
+    fn region(&mut self, scheme: &Scheme, level: u64, start: u64, end: u64) -> Region {
+        let low = align_down(start, size(level));
+        Region {
+            base: self.table_base(scheme, level, end - low),
+            low,
+            span: (end - low).next_multiple_of(size(level)),
+        }
+    }
+
+    /// The guest address from which on pages of a level map a region; at times it ends at the
     /// scheme's limit.
-    fn table_base(&mut self, scheme: &Scheme, level: u64) -> u64 {
-        let start = self.layout.start;
-        let end = start + self.layout.bytes.len() as u64;
-        let span = end - align_down(start, size(level));
+    fn table_base(&mut self, scheme: &Scheme, level: u64, span: u64) -> u64 {
         let limit = scheme.limit().min(NAMED);
         let last = align_down(limit - span, size(level));
-        if self.random.chance(30) {
+        if self.random.chance(40) {
             return last;
         }
         let max = limit / size(scheme.levels - 1) - 1;
@@ -219,12 +302,13 @@ impl World {
         address
     }
 
-    /// The guest address at which a page of the window is mapped for tables; where the leaf is for
+    /// The guest address at which a page of a window is mapped for tables; where the leaf is for
     /// this page alone, it has this U.
     pub fn guest_of(&mut self, space: &Space, page: u64, user: bool) -> u64 {
         let unit = size(space.table_level);
-        let low = align_down(self.layout.start, unit);
-        let guest = space.table_base + (page - low);
+        let side = self.layout.memory.holder(page, 4_096);
+        let region = space.regions[side.unwrap_or(Side::First) as usize];
+        let guest = region.base + (page - region.low);
         let mut flags = self.random.pick(&[ALL_FLAGS, 0x53, 0x57, 0x5B, 0xF3]);
         if !user && space.table_level == 0 {
             flags &= !0x10;
@@ -234,10 +318,11 @@ impl World {
         guest
     }
 
-    /// The page of the window behind a guest address of the table region.
+    /// The page of a window behind a guest address of its region.
     fn page_behind(&self, space: &Space, guest: u64) -> u64 {
-        let low = align_down(self.layout.start, size(space.table_level));
-        guest.wrapping_sub(space.table_base).wrapping_add(low)
+        let [first, second] = &space.regions;
+        let region = if first.holds(guest) { first } else { second };
+        guest.wrapping_sub(region.base).wrapping_add(region.low)
     }
 
     /// Puts an entry for an address at a level, with the tables above it. An entry that is there
@@ -266,7 +351,7 @@ impl World {
                 return present == 0 || present == entry;
             }
             table = match present {
-                0 => match self.add_table(space, place, at) {
+                0 => match self.add_table(root, space, place, at) {
                     Some(next) => next,
                     None => return false,
                 },
@@ -278,8 +363,17 @@ impl World {
     }
 
     /// A new table under a place; its page, or none.
-    fn add_table(&mut self, space: Option<&Space>, place: u64, level: u64) -> Option<u64> {
-        let page = self.page()?;
+    fn add_table(
+        &mut self,
+        root: &Root,
+        space: Option<&Space>,
+        place: u64,
+        level: u64,
+    ) -> Option<u64> {
+        let page = self.page(match root.scheme.signed {
+            true => Role::FirstStage,
+            false => Role::SecondStage,
+        })?;
         let named = match space {
             Some(space) => self.guest_of(space, page, true),
             None => page,
@@ -392,7 +486,7 @@ impl World {
         for level in (1..self.mode - 1).rev() {
             let place = table + ddi[level as usize] * 8;
             if self.layout.get(place) == 0 {
-                let page = self.page()?;
+                let page = self.page(Role::Directory)?;
                 self.layout.put(place, pointer(page));
                 self.places.push(Place::DirectoryPointer(place));
             }
@@ -404,7 +498,9 @@ impl World {
     /// PD8, PD17 or PD20 with one to three processes; gives pdtp.
     fn add_process_directory(&mut self, device: &DevicePlan) -> u64 {
         let levels = self.random.between(1, 3);
-        let Some(root) = self.page() else { return 0 };
+        let Some(root) = self.process_page() else {
+            return 0;
+        };
         let width = [8, 17, 20][levels as usize - 1];
         let mut processes = vec![0, self.random.of_width(width)];
         processes.push(self.random.pick(&[1, 255, (1 << width) - 1]));
@@ -440,7 +536,7 @@ impl World {
         for level in (1..levels).rev() {
             let place = table + pdi[level as usize] * 8;
             if self.layout.get(place) == 0 {
-                let page = self.page()?;
+                let page = self.process_page()?;
                 let named = self.table_name(device, page, true);
                 self.layout.put(place, pointer(named));
                 self.places.push(Place::ProcessPointer(place));
@@ -474,7 +570,7 @@ impl World {
         let page = if self.random.chance(25) {
             None
         } else {
-            self.page()
+            self.page(Role::FirstStage)
         };
         let scheme = &FIRST[self.random.below(3) as usize];
         let root = page.map(|table| Root { scheme, table });
@@ -605,9 +701,9 @@ impl World {
         1 | permissions | marks | software | u64::from(user) << 4
     }
 
-    /// A message table: a mask, a pattern, and a page of the window that holds entries.
+    /// A message table: a mask, a pattern, and a page that holds entries.
     fn add_message_table(&mut self) -> Option<Messages> {
-        let page = self.page()?;
+        let page = self.page(Role::Messages)?;
         let mask = choose_mask(&mut self.random);
         let alignment = (16u64 << mask.count_ones()).max(4_096);
         // Mostly within what a first stage can name; at times so low that the mask's bits are above.
@@ -648,18 +744,48 @@ impl World {
 
     /// A file for a message entry: mostly a page of files, at times any place, also outside.
     fn choose_file(&mut self) -> u64 {
-        let start = self.layout.start;
-        let length = self.layout.bytes.len() as u64;
-        let anywhere = start + self.random.below(length / 512) * 512;
         match self.random.below(100) {
             0..=74 => self.random.choose(&self.files.clone()).unwrap_or(0),
-            75..=87 => anywhere,
-            88..=90 => (start + length) % (1 << 56),
-            91..=93 => start.saturating_sub(512),
-            94..=96 => self.random.below(start / 512 + 1) * 512,
+            75..=87 => self.any_file(),
+            88..=93 => self.file_beside() % (1 << 56),
+            94..=96 => {
+                let start = self.any_file();
+                self.random.below(start / 512 + 1) * 512
+            }
             _ => self.random.of_width(47) * 512,
         }
     }
+
+    /// Any file of the windows; the start of one that is empty.
+    pub fn any_file(&mut self) -> u64 {
+        let memory = &self.layout.memory;
+        let [first, second] = [&memory.first, &memory.second].map(|w| w.bytes.len() as u64 / 512);
+        let number = self.random.below(first + second);
+        match number < first {
+            true => memory.first.start + number * 512,
+            false => memory.second.start + (number - first) * 512,
+        }
+    }
+
+    /// The file right below a window, or right above it.
+    pub fn file_beside(&mut self) -> u64 {
+        let side = self.random.pick(Side::ALL);
+        let window = self.layout.memory.window(side);
+        match self.random.chance(50) {
+            true => window.start.saturating_sub(512),
+            false => window.start + window.bytes.len() as u64,
+        }
+    }
+}
+
+/// The pages of a window, in any order.
+fn shuffled(random: &mut Random, start: u64, pages: u64) -> Vec<u64> {
+    let mut free: Vec<u64> = (0..pages).map(|page| start + page * 4_096).collect();
+    for place in (1..free.len()).rev() {
+        let other = random.below(place as u64 + 1) as usize;
+        free.swap(place, other);
+    }
+    free
 }
 
 /// Who uses an address space, and what its process context allows supervisors.
@@ -676,22 +802,6 @@ struct DevicePlan {
     id: u64,
     space: Option<Space>,
     messages: Option<Messages>,
-}
-
-/// A window's start: zero, the very top, across a large page's edge, or anywhere.
-fn choose_start(random: &mut Random, pages: u64) -> u64 {
-    let top = (1 << 44) - pages;
-    let page = match random.below(100) {
-        0..=14 => 0,
-        15..=29 => top,
-        30..=49 => {
-            let edge = random.pick(&[9, 9, 18, 18, 27, 36]);
-            (random.of_width(44 - edge) << edge).saturating_sub(random.below(pages + 1))
-        }
-        50..=64 => random.of_width(29),
-        _ => random.of_width(44),
-    };
-    page.min(top) << 12
 }
 
 /// A mask: no ones, few, many; dense and spread.

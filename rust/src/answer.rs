@@ -10,7 +10,7 @@ pub enum Answer {
     Translated(u64),
     /// A message, to be written to this physical address, an interrupt file of a hart.
     Redirected(u64),
-    /// A message, stored as pending in a memory-resident interrupt file of the window.
+    /// A message, stored as pending in a memory-resident interrupt file of one of the windows.
     Stored {
         /// The file's physical address.
         file: u64,
@@ -260,8 +260,10 @@ impl fmt::Display for Stage {
 #[derive(Clone, Copy, Debug, PartialEq, Eq, PartialOrd, Ord, Hash)]
 #[non_exhaustive]
 pub enum Refusal {
-    /// 2001: the window's start or length is no multiple of 4,096, or the window ends above 2^56.
+    /// 2001: a window's start or length is no multiple of 4,096, or the window ends above 2^56.
     Window,
+    /// 2011: an address lies in both windows.
+    Overlap,
     /// 2002: the directory mode is above 4, or the root page number has more than 44 bits.
     Directory,
     /// 2003: the device_id has more than 24 bits.
@@ -272,9 +274,9 @@ pub enum Refusal {
     Supervisor,
     /// 2006: the length is 0, or the access leaves its 4 KiB page.
     Length,
-    /// 2007: the message would be stored, and its file isn't in the window.
+    /// 2007: the message would be stored, and its file is in neither window.
     FileOutside,
-    /// 2008: take or report: the file's address is no multiple of 512, or it isn't in the window.
+    /// 2008: take or report: the file's address is no multiple of 512, or it is in neither window.
     File,
     /// 2009: take: the identity is above 2,047.
     Identity,
@@ -285,9 +287,10 @@ pub enum Refusal {
 }
 
 impl Refusal {
-    /// All refusals, in the order of their numbers.
-    pub const ALL: [Refusal; 11] = [
+    /// All refusals, in the order of the variants.
+    pub const ALL: [Refusal; 12] = [
         Refusal::Window,
+        Refusal::Overlap,
         Refusal::Directory,
         Refusal::DeviceId,
         Refusal::ProcessId,
@@ -311,15 +314,17 @@ impl Refusal {
             2007 => Refusal::FileOutside,
             2008 => Refusal::File,
             2009 => Refusal::Identity,
+            2011 => Refusal::Overlap,
             2014 => Refusal::Source,
             _ => another_version("refusal", number),
         }
     }
 
-    /// The refusal's number, never smaller in the order of the variants.
+    /// The refusal's number.
     pub const fn number(self) -> u64 {
         match self {
             Refusal::Window => 2001,
+            Refusal::Overlap => 2011,
             Refusal::Directory => 2002,
             Refusal::DeviceId => 2003,
             Refusal::ProcessId => 2004,
@@ -336,14 +341,15 @@ impl Refusal {
 impl fmt::Display for Refusal {
     fn fmt(&self, f: &mut fmt::Formatter<'_>) -> fmt::Result {
         let why = match self {
-            Refusal::Window => "the window isn't whole pages below 2^56",
+            Refusal::Window => "a window isn't whole pages below 2^56",
+            Refusal::Overlap => "the two windows overlap",
             Refusal::Directory => "no such directory mode, or the root page number is too wide",
             Refusal::DeviceId => "the device_id is too wide",
             Refusal::ProcessId => "the process_id is too wide",
             Refusal::Supervisor => "supervisor without a process_id",
             Refusal::Length => "the access is empty or leaves its page",
-            Refusal::FileOutside => "the message's file isn't in the window",
-            Refusal::File => "no interrupt file of the window is at that address",
+            Refusal::FileOutside => "the message's file is in neither window",
+            Refusal::File => "no interrupt file of either window is at that address",
             Refusal::Identity => "the identity is above 2,047",
             Refusal::Source => "no source of the domain has that number",
             Refusal::Hart => "no hart of the domain has that number",
@@ -409,7 +415,7 @@ impl Report {
     /// let mut window = [0; 4096];
     /// window[0] = 0b1000_0010;
     /// window[16] = 1;
-    /// let report = yasmurekh::report(0, &window, 0)?;
+    /// let report = yasmurekh::report(&yasmurekh::Memory::one(0, &mut window), 0)?;
     /// assert!(report.pending().eq([1, 7, 64]));
     /// # Ok::<(), yasmurekh::Refusal>(())
     /// ```
@@ -460,8 +466,8 @@ mod tests {
         refuses(|| done(2014));
     }
 
-    #[test]
-    fn unknown_words_of_a_request() {
+    /// An answer of each kind, by its words.
+    fn known() -> [([u64; 5], Answer); 7] {
         let fault = Fault {
             cause: 13,
             stage: Stage::First,
@@ -470,15 +476,20 @@ mod tests {
             address: 2,
             number: 3,
         };
-        let known = [
+        [
             ([0, 1, 0, 0, 0], Answer::Translated(1)),
             ([1, 1, 0, 0, 0], Answer::Redirected(1)),
             ([2, 1, 2, 3, 0], Answer::Stored { file: 1, notice }),
             ([3, 0, 0, 0, 0], Answer::Discarded),
             ([4, 13, 0, 0, 2], Answer::Fault(fault)),
             ([5, 2006, 0, 0, 0], Answer::Refused(Refusal::Length)),
-        ];
-        for (words, answer) in known {
+            ([5, 2011, 0, 0, 0], Answer::Refused(Refusal::Overlap)),
+        ]
+    }
+
+    #[test]
+    fn unknown_words_of_a_request() {
+        for (words, answer) in known() {
             assert_eq!(Answer::from_words(words), answer);
             // Each word left unwritten.
             for place in 0..5 {
@@ -496,6 +507,8 @@ mod tests {
             [4, 13, 0, 0, 5],
             [4, 13, 1, 0, 2],
             [5, 2010, 0, 0, 0],
+            [5, 2012, 0, 0, 0],
+            [5, 2011, 0, 0, 1],
             [5, 2006, 0, 0, 1],
         ] {
             refuses(move || Answer::from_words(words));
@@ -507,6 +520,7 @@ mod tests {
         assert_eq!(taken([6, 0, 0, 0, 0]), Ok(false));
         assert_eq!(taken([6, 1, 0, 0, 0]), Ok(true));
         assert_eq!(taken([5, 2009, 0, 0, 0]), Err(Refusal::Identity));
+        assert_eq!(taken([5, 2011, 0, 0, 0]), Err(Refusal::Overlap));
         for words in [
             [UNWRITTEN; 5],
             [0, 0, 0, 0, 0],

@@ -2,14 +2,17 @@
 #![allow(unsafe_code)]
 
 use crate::answer::{self, UNWRITTEN};
-use crate::{Access, Privilege, Refusal, Request, Settings};
+use crate::{Access, Memory, Privilege, Refusal, Request, Settings};
 
 mod c {
     extern "C" {
         pub fn yasmurekh_request(
-            start: u64,
-            window: *mut u8,
-            window_length: usize,
+            first_start: u64,
+            first: *mut u8,
+            first_length: usize,
+            second_start: u64,
+            second: *mut u8,
+            second_length: usize,
             mode: u64,
             root: u64,
             device: u64,
@@ -24,9 +27,12 @@ mod c {
         ) -> u64;
 
         pub fn yasmurekh_take(
-            start: u64,
-            window: *mut u8,
-            window_length: usize,
+            first_start: u64,
+            first: *mut u8,
+            first_length: usize,
+            second_start: u64,
+            second: *mut u8,
+            second_length: usize,
             file: u64,
             identity: u64,
             out: *mut u64,
@@ -34,9 +40,12 @@ mod c {
         ) -> u64;
 
         pub fn yasmurekh_report(
-            start: u64,
-            window: *const u8,
-            window_length: usize,
+            first_start: u64,
+            first: *const u8,
+            first_length: usize,
+            second_start: u64,
+            second: *const u8,
+            second_length: usize,
             file: u64,
             out: *mut u64,
             out_length: usize,
@@ -108,8 +117,8 @@ const fn access_number(access: Access) -> u64 {
     }
 }
 
-/// A request's words: kind, three values, stage.
-pub fn request(settings: &Settings, window: &mut [u8], request: &Request) -> [u64; 5] {
+/// A request's process and flags; without a process_id the process counts for nothing.
+fn process_and_flags(request: &Request) -> (u64, u64) {
     let (process, given) = match request.process_id {
         Some(process) => (process, PROCESS),
         None => (0, 0),
@@ -118,20 +127,31 @@ pub fn request(settings: &Settings, window: &mut [u8], request: &Request) -> [u6
         Privilege::User => 0,
         Privilege::Supervisor => SUPERVISOR,
     };
+    (process, given | supervisor)
+}
+
+/// A request's words: kind, three values, stage.
+pub fn request(memory: &mut Memory, settings: &Settings, request: &Request) -> [u64; 5] {
+    let Memory { first, second } = memory;
+    let (process, flags) = process_and_flags(request);
     let mut out = [UNWRITTEN; 5];
     // SAFETY: each pointer is that of a mutable slice, passed with that slice's length and borrowed
-    // until the call is over; `out` is a local, so the two share no byte. The routine is proved to
-    // touch nothing else, and to end, for every value of the numbers.
+    // until the call is over. The windows' slices are two mutable borrows and `out` is a local, so no
+    // two of the three share a byte. The routine is proved to touch nothing else, and to end, for
+    // every value of the numbers.
     let status = unsafe {
         c::yasmurekh_request(
-            settings.start,
-            window.as_mut_ptr(),
-            window.len(),
+            first.start,
+            first.bytes.as_mut_ptr(),
+            first.bytes.len(),
+            second.start,
+            second.bytes.as_mut_ptr(),
+            second.bytes.len(),
             settings.mode.0,
             settings.root,
             request.device_id,
             process,
-            given | supervisor,
+            flags,
             access_number(request.access),
             request.address,
             request.length,
@@ -145,14 +165,18 @@ pub fn request(settings: &Settings, window: &mut [u8], request: &Request) -> [u6
 }
 
 /// A take's words, as a request's.
-pub fn take(start: u64, window: &mut [u8], file: u64, identity: u64) -> [u64; 5] {
+pub fn take(memory: &mut Memory, file: u64, identity: u64) -> [u64; 5] {
+    let Memory { first, second } = memory;
     let mut out = [UNWRITTEN; 5];
     // SAFETY: as in `request`.
     let status = unsafe {
         c::yasmurekh_take(
-            start,
-            window.as_mut_ptr(),
-            window.len(),
+            first.start,
+            first.bytes.as_mut_ptr(),
+            first.bytes.len(),
+            second.start,
+            second.bytes.as_mut_ptr(),
+            second.bytes.len(),
             file,
             identity,
             out.as_mut_ptr(),
@@ -164,15 +188,19 @@ pub fn take(start: u64, window: &mut [u8], file: u64, identity: u64) -> [u64; 5]
 }
 
 /// A report's words: refusal, count, then 32 pairs of pending and enable.
-pub fn report(start: u64, window: &[u8], file: u64) -> [u64; 66] {
+pub fn report(memory: &Memory, file: u64) -> [u64; 66] {
+    let Memory { first, second } = memory;
     let mut out = [UNWRITTEN; 66];
-    // SAFETY: as in `request`; the window is passed to be read alone, and the routine is proved to
+    // SAFETY: as in `request`; the windows are passed to be read alone, and the routine is proved to
     // write nothing but `out`.
     let status = unsafe {
         c::yasmurekh_report(
-            start,
-            window.as_ptr(),
-            window.len(),
+            first.start,
+            first.bytes.as_ptr(),
+            first.bytes.len(),
+            second.start,
+            second.bytes.as_ptr(),
+            second.bytes.len(),
             file,
             out.as_mut_ptr(),
             out.len(),
@@ -257,15 +285,23 @@ pub fn aplic_forward(state: &mut [u64; DOMAIN_WORDS]) -> [u64; 4] {
 mod tests {
     use super::{c, DELIVERY_WORD, DOMAIN_WORDS};
 
-    /// A request of 4 bytes in mode Off with these flags and access, over one page.
-    fn raw_request(flags: u64, access: u64, out: &mut [u64]) -> (u64, [u8; 4096]) {
-        let mut window = [0xA5; 4096];
+    /// Two windows of a page, one after the other, full of ones.
+    type Pages = [[u8; 4096]; 2];
+    const FULL: Pages = [[0xFF; 4096]; 2];
+
+    /// A request of 4 bytes in mode Off with these flags and access.
+    fn raw_request(flags: u64, access: u64, out: &mut [u64]) -> (u64, Pages) {
+        let mut pages = FULL;
+        let [first, second] = &mut pages;
         // SAFETY: as in `super::request`.
         let status = unsafe {
             c::yasmurekh_request(
                 0,
-                window.as_mut_ptr(),
-                window.len(),
+                first.as_mut_ptr(),
+                first.len(),
+                4096,
+                second.as_mut_ptr(),
+                second.len(),
                 0,
                 0,
                 0,
@@ -279,50 +315,112 @@ mod tests {
                 out.len(),
             )
         };
-        (status, window)
+        (status, pages)
+    }
+
+    /// A take of identity 0 of the file at an address.
+    fn raw_take(file: u64, out: &mut [u64]) -> (u64, Pages) {
+        let mut pages = FULL;
+        let [first, second] = &mut pages;
+        // SAFETY: as in `super::take`.
+        let status = unsafe {
+            c::yasmurekh_take(
+                0,
+                first.as_mut_ptr(),
+                first.len(),
+                4096,
+                second.as_mut_ptr(),
+                second.len(),
+                file,
+                0,
+                out.as_mut_ptr(),
+                out.len(),
+            )
+        };
+        (status, pages)
+    }
+
+    /// A report of the file at an address.
+    fn raw_report(file: u64, out: &mut [u64]) -> u64 {
+        let [first, second] = &FULL;
+        // SAFETY: as in `super::report`.
+        unsafe {
+            c::yasmurekh_report(
+                0,
+                first.as_ptr(),
+                first.len(),
+                4096,
+                second.as_ptr(),
+                second.len(),
+                file,
+                out.as_mut_ptr(),
+                out.len(),
+            )
+        }
     }
 
     #[test]
     fn short_output_changes_nothing() {
         for length in 0..5 {
             let mut out = [7; 4];
-            let (status, window) = raw_request(0, 0, &mut out[..length]);
-            assert_eq!((status, out), (1, [7; 4]));
-            assert_eq!(window, [0xA5; 4096]);
-
-            let mut window = [0xFF; 4096];
-            // SAFETY: as in `super::request`.
-            let status = unsafe {
-                c::yasmurekh_take(0, window.as_mut_ptr(), 4096, 0, 0, out.as_mut_ptr(), length)
-            };
-            assert_eq!((status, out), (1, [7; 4]));
-            assert_eq!(window, [0xFF; 4096]);
+            let short = &mut out[..length.min(4)];
+            assert_eq!(raw_request(0, 0, short), (1, FULL));
+            for file in [0, 4096] {
+                assert_eq!(raw_take(file, short), (1, FULL));
+            }
+            assert_eq!(out, [7; 4]);
         }
         let mut out = [7; 65];
-        let window = [0xFF; 4096];
         for length in [0, 5, 65] {
-            // SAFETY: as in `super::report`.
-            let status = unsafe {
-                c::yasmurekh_report(0, window.as_ptr(), 4096, 0, out.as_mut_ptr(), length)
-            };
-            assert_eq!((status, out), (1, [7; 65]));
+            for file in [0, 4096] {
+                assert_eq!(raw_report(file, &mut out[..length]), 1);
+            }
         }
+        assert_eq!(out, [7; 65]);
+    }
+
+    #[test]
+    fn a_pointer_to_no_bytes_is_not_looked_at() {
+        let nothing = core::ptr::null_mut();
+        let mut out = [7; 5];
+        let mut page = FULL[0];
+        let mut make = |file| {
+            // SAFETY: as in `super::take`; nothing is read or written through the other pointer.
+            let status = unsafe {
+                let (lent, room) = (page.as_mut_ptr(), out.as_mut_ptr());
+                match file {
+                    0 => c::yasmurekh_take(0, lent, 4096, 512, nothing, 0, file, 0, room, 5),
+                    _ => c::yasmurekh_take(0, nothing, 0, file, lent, 4096, file, 1, room, 5),
+                }
+            };
+            (status, out)
+        };
+        assert_eq!(make(0), (0, [5, 2001, 0, 0, 0])); // the empty one starts in a page
+        assert_eq!(make(4096), (0, [6, 1, 0, 0, 0]));
+        assert_eq!(page[0], 0b1111_1101);
     }
 
     #[test]
     fn long_output_keeps_its_end() {
         let mut out = [7; 7];
-        let (status, _) = raw_request(0, 0, &mut out);
-        assert_eq!((status, out), (0, [4, 256, 0, 0, 0, 7, 7]));
+        assert_eq!(raw_request(0, 0, &mut out), (0, FULL));
+        assert_eq!(out, [4, 256, 0, 0, 0, 7, 7]);
+        let (status, pages) = raw_take(4096, &mut out);
+        assert_eq!((status, out), (0, [6, 1, 0, 0, 0, 7, 7]));
+        assert_eq!((pages[0], pages[1][0]), (FULL[0], 0xFE));
+        assert_eq!(pages[1][1..], FULL[1][1..]);
+        let mut out = [7; 68];
+        assert_eq!(raw_report(4096, &mut out), 0);
+        assert_eq!(out[..2], [0, 2048]);
+        assert_eq!(out[65..], [u64::MAX, 7, 7]);
     }
 
     #[test]
     fn unknown_access_or_flag_is_2010() {
         for (flags, access) in [(0, 3), (0, u64::MAX), (4, 0), (7, 1), (u64::MAX, 2), (8, 9)] {
             let mut out = [7; 5];
-            let (status, window) = raw_request(flags, access, &mut out);
-            assert_eq!((status, out), (0, [5, 2010, 0, 0, 0]));
-            assert_eq!(window, [0xA5; 4096]);
+            assert_eq!(raw_request(flags, access, &mut out), (0, FULL));
+            assert_eq!(out, [5, 2010, 0, 0, 0]);
         }
     }
 

@@ -2,14 +2,12 @@
 
 use core::fmt;
 
-/// Where the window and the device directory are.
+/// Where the device directory is.
 ///
-/// Every value is legal to give; [`Refusal::Window`](crate::Refusal::Window) and
-/// [`Refusal::Directory`](crate::Refusal::Directory) say what is refused.
+/// Every value is legal to give; [`Refusal::Directory`](crate::Refusal::Directory) says what is
+/// refused.
 #[derive(Clone, Copy, Debug, PartialEq, Eq, Hash)]
 pub struct Settings {
-    /// The physical address of the window's first byte.
-    pub start: u64,
     /// The device directory's mode.
     pub mode: Mode,
     /// The page number of the device directory's root.

@@ -1,5 +1,6 @@
 //! An archive that isn't the one this crate is for: the example `calls`, built for release over a stub in
-//! the library's place, panics at every call that is answered by what this crate doesn't know.
+//! the library's place, panics at every call that is answered by what this crate doesn't know; and the
+//! header's inline functions, over that stub, refuse.
 
 use std::env;
 use std::path::{Path, PathBuf};
@@ -35,43 +36,88 @@ fn run(command: &mut Command) {
     assert!(output.status.success(), "{command:?}: {text}");
 }
 
+const HERE: &str = env!("CARGO_MANIFEST_DIR");
+
+/// The C compiler, with warnings as errors and the header's folder.
+fn compiler() -> Command {
+    let mut command = Command::new(env::var_os("CC").unwrap_or("gcc".into()));
+    command.args(["-std=c99", "-Wall", "-Wextra", "-Werror", "-O2"]);
+    command.arg("-I").arg(Path::new(HERE).join("../include"));
+    command
+}
+
+fn folder() -> PathBuf {
+    Path::new(env!("CARGO_TARGET_TMPDIR")).join("stub")
+}
+
+/// The folder with the stub as an archive, built once.
+fn stub() -> &'static Path {
+    static STUB: OnceLock<PathBuf> = OnceLock::new();
+    STUB.get_or_init(|| {
+        std::fs::create_dir_all(folder()).expect("a folder");
+        let object = folder().join("stub.o");
+        run(compiler()
+            .arg("-c")
+            .arg(Path::new(HERE).join("tests/stub.c"))
+            .arg("-o")
+            .arg(&object));
+        let archive = folder().join("libcapi.a");
+        run(Command::new("ar").arg("rcs").arg(archive).arg(object));
+        folder()
+    })
+}
+
 /// The example, built once over the stub.
 fn program() -> &'static Path {
     static PROGRAM: OnceLock<PathBuf> = OnceLock::new();
     PROGRAM.get_or_init(|| {
-        let here = Path::new(env!("CARGO_MANIFEST_DIR"));
-        let folder = Path::new(env!("CARGO_TARGET_TMPDIR")).join("stub");
-        std::fs::create_dir_all(&folder).expect("a folder");
-        let object = folder.join("stub.o");
-        run(Command::new(env::var_os("CC").unwrap_or("gcc".into()))
-            .args(["-std=c99", "-Wall", "-Wextra", "-Werror", "-O2", "-c"])
-            .arg("-I")
-            .arg(here.join("../include"))
-            .arg(here.join("tests/stub.c"))
-            .arg("-o")
-            .arg(&object));
-        let archive = folder.join("libcapi.a");
-        run(Command::new("ar").arg("rcs").arg(&archive).arg(&object));
-        let target = folder.join("target");
+        let target = folder().join("target");
         run(Command::new(env::var_os("CARGO").unwrap_or("cargo".into()))
             .args(["build", "--release", "--offline", "--quiet"])
             .args(["--example", "calls", "--manifest-path"])
-            .arg(here.join("Cargo.toml"))
-            .env("YASMUREKH_LIB_DIR", &folder)
+            .arg(Path::new(HERE).join("Cargo.toml"))
+            .env("YASMUREKH_LIB_DIR", stub())
             .env("CARGO_TARGET_DIR", &target));
         target.join("release/examples/calls")
     })
 }
 
-/// A call, answered by the stub with a status and words.
-fn call(name: &str, status: u64, words: &[&str]) -> Output {
-    Command::new(program())
+/// The inline functions, built once over the stub.
+fn inline() -> &'static Path {
+    static PROGRAM: OnceLock<PathBuf> = OnceLock::new();
+    PROGRAM.get_or_init(|| {
+        let program = folder().join("inline");
+        run(compiler()
+            .arg(Path::new(HERE).join("tests/inline.c"))
+            .arg(stub().join("libcapi.a"))
+            .arg("-o")
+            .arg(&program));
+        program
+    })
+}
+
+/// A program's call, answered by the stub with a status and words.
+fn answered(program: &Path, name: &str, status: u64, words: &[&str]) -> Output {
+    Command::new(program)
         .arg(name)
         .env("STUB_STATUS", status.to_string())
         .env("STUB_WORDS", words.join(" "))
         .env("RUST_BACKTRACE", "0")
         .output()
         .expect("it runs")
+}
+
+/// A call of the example.
+fn call(name: &str, status: u64, words: &[&str]) -> Output {
+    answered(program(), name, status, words)
+}
+
+/// What an inline function hands back.
+fn handed(name: &str, status: u64, words: &[&str]) -> String {
+    let output = answered(inline(), name, status, words);
+    assert_eq!(output.status.code(), Some(0), "{name}: {output:?}");
+    let text = String::from_utf8_lossy(&output.stdout);
+    text.trim_end().to_string()
 }
 
 /// Sees that a call ends in the panic that names another version, and hands nothing out.
@@ -115,4 +161,33 @@ fn unwritten_words_panic() {
             }
         }
     }
+}
+
+#[test]
+fn the_inline_functions_hand_back_the_words() {
+    let words = ["4", "13", "7", "8", "2"];
+    for name in ["request", "take"] {
+        assert_eq!(handed(name, 0, &words), "4 13 7 8 2");
+    }
+    let mut words = ["0"; 66];
+    (words[1], words[2], words[65]) = ("3", "7", "9");
+    assert_eq!(handed("report", 0, &words), "0 3 16");
+    words[0] = "2011";
+    assert_eq!(handed("report", 0, &words), "2011 3 16");
+}
+
+#[test]
+fn the_inline_functions_refuse_what_they_do_not_know() {
+    let words = ["7"; 66];
+    for status in [1, 2, 2001, u64::MAX] {
+        for name in ["request", "take"] {
+            assert_eq!(handed(name, status, &words), format!("5 {status} 0 0 0"));
+            assert_eq!(handed(name, status, &[]), format!("5 {status} 0 0 0"));
+        }
+        assert_eq!(handed("report", status, &words), format!("{status} 0 0"));
+    }
+    // Nothing written, and a status that says that all is.
+    assert_eq!(handed("request", 0, &[]), "5 1 0 0 0");
+    assert_eq!(handed("take", 0, &[]), "5 1 0 0 0");
+    assert_eq!(handed("report", 0, &[]), "1 0 0");
 }

@@ -1,8 +1,9 @@
-//! The worked cases P5 to P14, the order of refusals, takes and reports.
+//! The worked cases P5 to P14, the order of refusals, takes and reports, all in one window; two are in
+//! tests/windows.rs.
 
 use yasmurekh::{
-    report, request, take, Access, Answer, Fault, Mode, Notice, Pair, Privilege, Refusal, Request,
-    Settings, Stage,
+    report, request, take, Access, Answer, Fault, Memory, Mode, Notice, Pair, Privilege, Refusal,
+    Request, Settings, Stage,
 };
 
 const START: u64 = 0x4000_0000;
@@ -10,7 +11,6 @@ const FILE: u64 = 0x4000_1200;
 const PLACE: usize = (FILE - START) as usize;
 
 const SETTINGS: Settings = Settings {
-    start: START,
     mode: Mode::ONE_LEVEL,
     root: START / 4096,
 };
@@ -19,6 +19,11 @@ const SETTINGS: Settings = Settings {
 const REDIRECT: [u64; 2] = [0x0A00_0407, 0];
 const STORE: [u64; 2] = [0x1000_0483, 0x1000_0000_0A00_0005];
 const RESERVED_MODE: [u64; 2] = [0x0A00_0405, 0];
+
+/// The one window, from START on.
+fn one(window: &mut [u8]) -> Memory<'_> {
+    Memory::one(START, window)
+}
 
 fn put(window: &mut [u8], offset: usize, word: u64) {
     window[offset..offset + 8].copy_from_slice(&word.to_le_bytes());
@@ -41,7 +46,7 @@ fn layout(entry: [u64; 2]) -> Vec<u8> {
 /// A request's answer, and the bytes that it changed: place, before, after.
 fn run(window: &mut [u8], asked: &Request) -> (Answer, Vec<(usize, u8, u8)>) {
     let before = window.to_vec();
-    let answer = request(&SETTINGS, window, asked);
+    let answer = request(&mut one(window), &SETTINGS, asked);
     let changed = (0..before.len())
         .filter(|place| before[*place] != window[*place])
         .map(|place| (place, before[place], window[place]))
@@ -118,14 +123,14 @@ fn p11_device_wider_than_two_levels() {
         ..SETTINGS
     };
     let asked = Request::read(0x01_2345, 0x1000, 4);
-    let answer = request(&settings, &mut layout(STORE), &asked);
+    let answer = request(&mut one(&mut layout(STORE)), &settings, &asked);
     assert_eq!(answer, fault(260, Stage::Directory));
     let settings = Settings {
         mode: Mode::THREE_LEVEL,
         ..SETTINGS
     };
     // Three levels have a place for it: entry 2 of the root is word 16, and it isn't valid.
-    let answer = request(&settings, &mut layout(STORE), &asked);
+    let answer = request(&mut one(&mut layout(STORE)), &settings, &asked);
     assert_eq!(answer, fault(258, Stage::Directory));
 }
 
@@ -251,7 +256,6 @@ fn four_levels_on_five() {
 #[test]
 fn refusals_in_order() {
     let mut settings = Settings {
-        start: START + 1,
         mode: Mode(5),
         root: 1 << 44,
     };
@@ -259,40 +263,38 @@ fn refusals_in_order() {
         device_id: 1 << 24,
         process_id: Some(1 << 20),
         privilege: Privilege::Supervisor,
-        access: Access::Write,
-        address: 0x8000_6000,
         length: 0,
-        data: 37,
+        ..Request::message(0, 0x8000_6000, 37)
     };
     let mut window = layout([0x2000_0003, STORE[1]]); // a file at 2^31, outside the window
     let lent = window.clone();
-    let mut next = |settings: &Settings, asked: &Request| request(settings, &mut window, asked);
-
-    assert_eq!(next(&settings, &asked), Answer::Refused(Refusal::Window));
-    settings.start = START;
-    assert_eq!(next(&settings, &asked), Answer::Refused(Refusal::Directory));
+    let mut next = |start: u64, settings: &Settings, asked: &Request| match request(
+        &mut Memory::one(start, &mut window),
+        settings,
+        asked,
+    ) {
+        Answer::Refused(refusal) => Some(refusal),
+        _ => None,
+    };
+    assert_eq!(next(START + 1, &settings, &asked), Some(Refusal::Window));
+    assert_eq!(next(START, &settings, &asked), Some(Refusal::Directory));
     settings.mode = Mode::ONE_LEVEL;
-    assert_eq!(next(&settings, &asked), Answer::Refused(Refusal::Directory));
+    assert_eq!(next(START, &settings, &asked), Some(Refusal::Directory));
     settings.root = START / 4096;
-    assert_eq!(next(&settings, &asked), Answer::Refused(Refusal::DeviceId));
+    assert_eq!(next(START, &settings, &asked), Some(Refusal::DeviceId));
     asked.device_id = 0;
-    assert_eq!(next(&settings, &asked), Answer::Refused(Refusal::ProcessId));
+    assert_eq!(next(START, &settings, &asked), Some(Refusal::ProcessId));
     asked.process_id = None;
-    assert_eq!(
-        next(&settings, &asked),
-        Answer::Refused(Refusal::Supervisor)
-    );
+    assert_eq!(next(START, &settings, &asked), Some(Refusal::Supervisor));
     asked.privilege = Privilege::User;
-    assert_eq!(next(&settings, &asked), Answer::Refused(Refusal::Length));
+    assert_eq!(next(START, &settings, &asked), Some(Refusal::Length));
     asked.length = 4097;
-    assert_eq!(next(&settings, &asked), Answer::Refused(Refusal::Length));
+    assert_eq!(next(START, &settings, &asked), Some(Refusal::Length));
     asked.length = 4;
-    assert_eq!(
-        next(&settings, &asked),
-        Answer::Refused(Refusal::FileOutside)
-    );
+    assert_eq!(next(START, &settings, &asked), Some(Refusal::FileOutside));
     asked.data = 2048; // nothing to store: discarded before the file is looked at
-    assert_eq!(next(&settings, &asked), Answer::Discarded);
+    let answer = request(&mut one(&mut window), &settings, &asked);
+    assert_eq!(answer, Answer::Discarded);
     assert_eq!(window, lent);
 }
 
@@ -300,15 +302,21 @@ fn refusals_in_order() {
 fn takes() {
     let mut window = layout(STORE);
     let message = Request::message(0, 0x8000_6000, 37);
-    assert_eq!(take(START, &mut window, FILE, 37), Ok(false));
-    assert_eq!(request(&SETTINGS, &mut window, &message), stored());
-    assert_eq!(request(&SETTINGS, &mut window, &message), stored());
+    assert_eq!(take(&mut one(&mut window), FILE, 37), Ok(false));
+    assert_eq!(
+        request(&mut one(&mut window), &SETTINGS, &message),
+        stored()
+    );
+    assert_eq!(
+        request(&mut one(&mut window), &SETTINGS, &message),
+        stored()
+    );
     let after_stores = window.clone();
-    assert_eq!(take(START, &mut window, FILE, 36), Ok(false));
+    assert_eq!(take(&mut one(&mut window), FILE, 36), Ok(false));
     assert_eq!(window, after_stores);
-    assert_eq!(take(START, &mut window, FILE, 37), Ok(true));
+    assert_eq!(take(&mut one(&mut window), FILE, 37), Ok(true));
     assert_eq!(window, layout(STORE));
-    assert_eq!(take(START, &mut window, FILE, 37), Ok(false));
+    assert_eq!(take(&mut one(&mut window), FILE, 37), Ok(false));
     assert_eq!(window, layout(STORE));
 }
 
@@ -316,21 +324,33 @@ fn takes() {
 fn take_refusals_in_order() {
     let mut window = vec![0xFF; 4096];
     let last = START + 4096 - 512;
-    assert_eq!(take(1, &mut window, 1, 2048), Err(Refusal::Window));
-    assert_eq!(take(START, &mut window, last + 1, 2048), Err(Refusal::File));
     assert_eq!(
-        take(START, &mut window, last + 512, 2048),
+        take(&mut Memory::one(1, &mut window), 1, 2048),
+        Err(Refusal::Window)
+    );
+    assert_eq!(
+        take(&mut one(&mut window), last + 1, 2048),
         Err(Refusal::File)
     );
-    assert_eq!(take(START, &mut window, START - 512, 0), Err(Refusal::File));
-    assert_eq!(take(START, &mut window, last, 2048), Err(Refusal::Identity));
     assert_eq!(
-        take(START, &mut window, last, u64::MAX),
+        take(&mut one(&mut window), last + 512, 2048),
+        Err(Refusal::File)
+    );
+    assert_eq!(
+        take(&mut one(&mut window), START - 512, 0),
+        Err(Refusal::File)
+    );
+    assert_eq!(
+        take(&mut one(&mut window), last, 2048),
         Err(Refusal::Identity)
     );
-    assert_eq!(take(START, &mut [], START, 0), Err(Refusal::File));
+    assert_eq!(
+        take(&mut one(&mut window), last, u64::MAX),
+        Err(Refusal::Identity)
+    );
+    assert_eq!(take(&mut one(&mut []), START, 0), Err(Refusal::File));
     assert_eq!(window, vec![0xFF; 4096]);
-    assert_eq!(take(START, &mut window, last, 2047), Ok(true));
+    assert_eq!(take(&mut one(&mut window), last, 2047), Ok(true));
     assert_eq!(window[4096 - 512 + 503], 0x7F);
 }
 
@@ -340,7 +360,7 @@ fn reports() {
     put(&mut window, PLACE, 1 | 1 << 37);
     put(&mut window, PLACE + 8, 1 << 37);
     put(&mut window, PLACE + 31 * 16, 1 << 63);
-    let shown = report(START, &window, FILE).expect("a file of the window");
+    let shown = report(&one(&mut window), FILE).expect("a file of the window");
     assert_eq!(shown.count, 3);
     let first = Pair {
         pending: 1 | 1 << 37,
@@ -352,36 +372,42 @@ fn reports() {
     assert!(shown.is_enabled(37) && !shown.is_enabled(0));
     assert!(!shown.is_pending(2048) && !shown.is_pending(u64::MAX));
 
-    assert_eq!(report(START + 1, &window, 1), Err(Refusal::Window));
-    assert_eq!(report(START, &window, FILE + 1), Err(Refusal::File));
-    assert_eq!(report(START, &window, START + 3 * 4096), Err(Refusal::File));
-    assert_eq!(report(START, &[], START), Err(Refusal::File));
+    assert_eq!(
+        report(&Memory::one(START + 1, &mut window), 1),
+        Err(Refusal::Window)
+    );
+    assert_eq!(report(&one(&mut window), FILE + 1), Err(Refusal::File));
+    assert_eq!(
+        report(&one(&mut window), START + 3 * 4096),
+        Err(Refusal::File)
+    );
+    assert_eq!(report(&one(&mut []), START), Err(Refusal::File));
 }
 
 #[test]
 fn an_empty_window_and_one_at_the_top() {
     let read = Request::read(0, 0x1000, 4);
     let violation = fault(257, Stage::Directory);
-    assert_eq!(request(&SETTINGS, &mut [], &read), violation);
-    let top = Settings {
-        start: 1 << 56,
-        ..SETTINGS
-    };
-    assert_eq!(request(&top, &mut [], &read), violation);
+    assert_eq!(request(&mut one(&mut []), &SETTINGS, &read), violation);
+    let mut top = Memory::one(1 << 56, &mut []);
+    assert_eq!(request(&mut top, &SETTINGS, &read), violation);
     let refused = Answer::Refused(Refusal::Window);
-    assert_eq!(request(&top, &mut [0; 4096], &read), refused);
+    let mut page = [0; 4096];
+    let mut beyond = Memory::one(1 << 56, &mut page);
+    assert_eq!(request(&mut beyond, &SETTINGS, &read), refused);
 }
 
 #[test]
 fn numbers_and_words() {
     let numbers = Refusal::ALL.iter().map(|refusal| refusal.number());
-    assert!(numbers.eq((2001..=2009).chain([2014, 2014])));
+    let checked = [2001, 2011].into_iter().chain(2002..=2009);
+    assert!(numbers.eq(checked.chain([2014, 2014])));
     for (place, stage) in Stage::ALL.iter().enumerate() {
         assert_eq!(stage.number(), place as u64);
     }
     assert_eq!(
         Refusal::File.to_string(),
-        "refused (2008): no interrupt file of the window is at that address"
+        "refused (2008): no interrupt file of either window is at that address"
     );
     assert_eq!(
         fault(21, Stage::Second).to_string(),

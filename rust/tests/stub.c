@@ -17,23 +17,28 @@ static uint64_t answer(uint64_t *out, size_t out_len) {
     return status ? strtoull(status, NULL, 10) : 0;
 }
 
-uint64_t yasmurekh_request(uint64_t start, uint8_t *window, size_t window_len, uint64_t mode, uint64_t root,
-                           uint64_t device, uint64_t process, uint64_t flags, uint64_t access, uint64_t address,
-                           uint64_t length, uint32_t value, uint64_t *out, size_t out_len) {
-    (void)start, (void)window, (void)window_len, (void)mode, (void)root, (void)device, (void)process;
-    (void)flags, (void)access, (void)address, (void)length, (void)value;
+uint64_t yasmurekh_request(uint64_t first_start, uint8_t *first, size_t first_len, uint64_t second_start,
+                           uint8_t *second, size_t second_len, uint64_t mode, uint64_t root, uint64_t device,
+                           uint64_t process, uint64_t flags, uint64_t access, uint64_t address, uint64_t length,
+                           uint32_t value, uint64_t *out, size_t out_len) {
+    (void)first_start, (void)first, (void)first_len, (void)second_start, (void)second, (void)second_len;
+    (void)mode, (void)root, (void)device, (void)process, (void)flags, (void)access, (void)address, (void)length;
+    (void)value;
     return answer(out, out_len);
 }
 
-uint64_t yasmurekh_take(uint64_t start, uint8_t *window, size_t window_len, uint64_t file, uint64_t identity,
-                        uint64_t *out, size_t out_len) {
-    (void)start, (void)window, (void)window_len, (void)file, (void)identity;
+uint64_t yasmurekh_take(uint64_t first_start, uint8_t *first, size_t first_len, uint64_t second_start,
+                        uint8_t *second, size_t second_len, uint64_t file, uint64_t identity, uint64_t *out,
+                        size_t out_len) {
+    (void)first_start, (void)first, (void)first_len, (void)second_start, (void)second, (void)second_len;
+    (void)file, (void)identity;
     return answer(out, out_len);
 }
 
-uint64_t yasmurekh_report(uint64_t start, const uint8_t *window, size_t window_len, uint64_t file, uint64_t *out,
-                          size_t out_len) {
-    (void)start, (void)window, (void)window_len, (void)file;
+uint64_t yasmurekh_report(uint64_t first_start, const uint8_t *first, size_t first_len, uint64_t second_start,
+                          const uint8_t *second, size_t second_len, uint64_t file, uint64_t *out, size_t out_len) {
+    (void)first_start, (void)first, (void)first_len, (void)second_start, (void)second, (void)second_len;
+    (void)file;
     return answer(out, out_len);
 }
 

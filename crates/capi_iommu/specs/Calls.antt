@@ -1,12 +1,13 @@
--- The C functions that may change what is lent, as calls: what each tells, writes into its buffer and leaves of the window. Their promises name these very definitions, and so does demand 3 of lists of C calls (`capi_ledger`).
+-- The C functions that may change what is lent, as calls: what each tells, writes into its buffer and leaves of both windows. Their promises name these very definitions, and so does demand 3 of lists of C calls (`capi_ledger`).
 use Prim.Native.Nat.{ℕ}
 use mathlib.Core.List.{List}
+use Rattle.memory.specs.Window.{Lent}
 use Rattle.iommu.specs.Files.{takeOf, afterTakeOf}
-use Rattle.iommu.specs.Operations.{Lent}
+use Rattle.iommu.specs.Operations.{startsOf}
 use Rattle.capi_room.specs.Room.{status, fitting}
 use Rattle.capi_iommu.specs.Face.{withAnswer, requestFace, afterFace}
 
--- a call's arguments beside the window: mode, root, device, process, flags, access, address, length, data and the buffer's words; or file, identity and the buffer's words
+-- a call's arguments beside the windows: mode, root, device, process, flags, access, address, length, data and the buffer's words; or file, identity and the buffer's words
 pub data CCall : Type 0 where
   requested : ℕ → ℕ → ℕ → ℕ → ℕ → ℕ → ℕ → ℕ → ℕ → List ℕ → CCall
   taken : ℕ → ℕ → List ℕ → CCall
@@ -18,11 +19,11 @@ statusOf (taken file n out) = status 5 out
 -- the buffer's words after
 abbrev pub wordsOf : Lent → CCall → List ℕ
 wordsOf l (requested mode root device process flags access address len value out) =
-    fitting 5 out out (withAnswer out (requestFace (l .start) mode root device process flags access address len value (l .bytes)))
-wordsOf l (taken file n out) = fitting 5 out out (withAnswer out (takeOf (l .start) (l .bytes) file n))
+    fitting 5 out out (withAnswer out (requestFace l mode root device process flags access address len value))
+wordsOf l (taken file n out) = fitting 5 out out (withAnswer out (takeOf (startsOf l) (l .first .bytes) (l .second .bytes) file n))
 
--- the window's bytes after
-abbrev pub windowOf : Lent → CCall → List ℕ
-windowOf l (requested mode root device process flags access address len value out) =
-    fitting 5 out (l .bytes) (afterFace (l .start) mode root device process flags access address len value (l .bytes))
-windowOf l (taken file n out) = fitting 5 out (l .bytes) (afterTakeOf (l .start) (l .bytes) file n)
+-- what is lent after: the bytes of both windows, which stay where they start
+abbrev pub leftOf : Lent → CCall → Lent
+leftOf l (requested mode root device process flags access address len value out) =
+    fitting 5 out l (afterFace l mode root device process flags access address len value)
+leftOf l (taken file n out) = fitting 5 out l (afterTakeOf (startsOf l) (l .first .bytes) (l .second .bytes) file n)

@@ -5,6 +5,7 @@ use mathlib.Core.List.{List}
 use lib.Dec.{eqb, ltb, leb}
 use lib.ListN.{set}
 use Rattle.memory.specs.Choice.{pick}
+use Rattle.memory.specs.Window.{Lent}
 use Rattle.causes.specs.Causes.{stageNumber}
 use Rattle.causes.specs.declared.Access.{Access}
 use Rattle.causes.specs.declared.Access.the-variants.{Read, Write, Execute}
@@ -45,24 +46,30 @@ abbrev pub withAnswer : List ℕ → Answer → List ℕ
 withAnswer out a =
     set (set (set (set (set out 0 (numbersOf a .kind)) 1 (numbersOf a .first)) 2 (numbersOf a .second)) 3 (numbersOf a .third)) 4 (stageOf a)
 
--- an unknown access or flag is refused with 2010, as in a case file
-module _ (start mode root device process flags access address len value : ℕ) (bytes : List ℕ) where
-  abbrev pub settingsFace : Settings
-  settingsFace = record { start = start; mode = mode; root = root }
+-- the request that the numbers make
+abbrev pub asked : ℕ → ℕ → ℕ → ℕ → ℕ → Access → DeviceRequest
+asked device process flags address len x =
+    record { device = device; process = processOf flags process; supervisor = supervisorOf flags; access = x; address = address; length = len }
 
-  abbrev pub asked : Access → DeviceRequest
-  asked x = record { device = device; process = processOf flags process; supervisor = supervisorOf flags; access = x; address = address; length = len }
+-- where both windows start, and the directory
+abbrev pub settingsAt : ℕ → ℕ → ℕ → ℕ → Settings
+settingsAt first second mode root = record { starts = record { first = first; second = second }; mode = mode; root = root }
+
+-- an unknown access or flag is refused with 2010, as in a case file
+module _ (l : Lent) (mode root device process flags access address len value : ℕ) where
+  abbrev pub settingsFace : Settings
+  settingsFace = settingsAt (l .first .start) (l .second .start) mode root
 
   abbrev pub chosenFace : Chosen → Answer
   chosenFace Unknown = Refused 2010
-  chosenFace (Known x) = pick (ltb 3 flags) (Refused 2010) (requestOf settingsFace bytes (asked x) value)
+  chosenFace (Known x) = pick (ltb 3 flags) (Refused 2010) (requestOf settingsFace (l .first .bytes) (l .second .bytes) (asked device process flags address len x) value)
 
-  abbrev pub chosenBytes : Chosen → List ℕ
-  chosenBytes Unknown = bytes
-  chosenBytes (Known x) = pick (ltb 3 flags) bytes (afterRequest settingsFace bytes (asked x) value)
+  abbrev pub chosenBytes : Chosen → Lent
+  chosenBytes Unknown = l
+  chosenBytes (Known x) = pick (ltb 3 flags) l (afterRequest settingsFace (l .first .bytes) (l .second .bytes) (asked device process flags address len x) value)
 
   unfoldable pub requestFace : Answer
   requestFace = chosenFace (chosenOf access)
 
-  unfoldable pub afterFace : List ℕ
+  unfoldable pub afterFace : Lent
   afterFace = chosenBytes (chosenOf access)

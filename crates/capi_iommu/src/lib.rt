@@ -4,12 +4,14 @@ use directory_process::ProcessId;
 use iommu::Answer;
 use iommu_refusals::DeviceRequest;
 use iommu_refusals::Settings;
+use memory::Starts;
 ghost use mathlib.Core.Path.{_≡_};
 ghost use Prim.Native.Nat.{_≤_};
 ghost use lib.ListN.{length as lengthOf};
+ghost use Rattle.memory.specs.Window.{lent, lentAt, Leaves};
 ghost use Rattle.capi_room.specs.Room.{status};
-ghost use Rattle.capi_iommu.specs.Face.{stageOf, withAnswer, chosenOf, processOf, requestFace, afterFace};
-ghost use Rattle.capi_iommu.specs.Calls.{requested, taken, statusOf, wordsOf, windowOf};
+ghost use Rattle.capi_iommu.specs.Face.{stageOf, withAnswer, chosenOf, processOf, settingsAt, requestFace, afterFace};
+ghost use Rattle.capi_iommu.specs.Calls.{requested, taken, statusOf, wordsOf, leftOf};
 
 // An access that a number names.
 pub enum Chosen {
@@ -74,11 +76,18 @@ fn put_answer(out: &mut [u64], a: Answer)
     out[4] = stage;
 }
 
+// Where both windows start, and the directory.
+fn settings_at(first: u64, second: u64, mode: u64, root: u64) -> Settings
+    ensures { λ r. ⌜ r ≡ settingsAt first second mode root ⌝ }
+{
+    let starts = Starts { first, second };
+    Settings { starts, mode, root }
+}
+
 fn face(
-    start: u64,
-    window: &mut [u8],
-    mode: u64,
-    root: u64,
+    s: Settings,
+    first: &mut [u8],
+    second: &mut [u8],
     device: u64,
     process: u64,
     flags: u64,
@@ -87,8 +96,8 @@ fn face(
     length: u64,
     value: u32,
 ) -> Answer
-    ensures answer { λ r. ⌜ r ≡ requestFace start mode root device process flags access address length value (now (window .entry)) ⌝ }
-    ensures bytes { λ _. ⌜ now (window .exit) ≡ afterFace start mode root device process flags access address length value (now (window .entry)) ⌝ }
+    ensures answer { λ r. ⌜ r ≡ requestFace (lent (s .starts) (now (first .entry)) (now (second .entry))) (s .mode) (s .root) device process flags access address length value ⌝ }
+    ensures bytes { λ _. ⌜ Leaves (afterFace (lent (s .starts) (now (first .entry)) (now (second .entry))) (s .mode) (s .root) device process flags access address length value) (now (first .exit)) (now (second .exit)) ⌝ }
 {
     let choice = choose(access);
     let Chosen::Known(x) = choice else {
@@ -97,11 +106,6 @@ fn face(
     if 3 < flags {
         return Answer::Refused(2010);
     }
-    let settings = Settings {
-        start: start,
-        mode: mode,
-        root: root,
-    };
     let p = process_of(flags, process);
     let request = DeviceRequest {
         device: device,
@@ -111,14 +115,16 @@ fn face(
         address: address,
         length: length,
     };
-    iommu::request(settings, window, request, value)
+    iommu::request(s, first, second, request, value)
 }
 
 // A request. Status 0: `out` holds kind, three values and stage; status 1: `out` has fewer than five words, and nothing changed.
 #[no_mangle]
 pub extern "C" fn yasmurekh_request(
-    start: u64,
-    window: &mut [u8],
+    first_start: u64,
+    first: &mut [u8],
+    second_start: u64,
+    second: &mut [u8],
     mode: u64,
     root: u64,
     device: u64,
@@ -131,17 +137,17 @@ pub extern "C" fn yasmurekh_request(
     out: &mut [u64],
 ) -> u64
     ensures told { λ r. ⌜ r ≡ statusOf (requested mode root device process flags access address length value (now (out .entry))) ⌝ }
-    ensures answer { λ _. ⌜ now (out .exit) ≡ wordsOf (record { start = start; bytes = now (window .entry) }) (requested mode root device process flags access address length value (now (out .entry))) ⌝ }
-    ensures bytes { λ _. ⌜ now (window .exit) ≡ windowOf (record { start = start; bytes = now (window .entry) }) (requested mode root device process flags access address length value (now (out .entry))) ⌝ }
+    ensures answer { λ _. ⌜ now (out .exit) ≡ wordsOf (lentAt «first_start» (now (first .entry)) «second_start» (now (second .entry))) (requested mode root device process flags access address length value (now (out .entry))) ⌝ }
+    ensures bytes { λ _. ⌜ Leaves (leftOf (lentAt «first_start» (now (first .entry)) «second_start» (now (second .entry))) (requested mode root device process flags access address length value (now (out .entry)))) (now (first .exit)) (now (second .exit)) ⌝ }
 {
     if out.len() < 5 {
         return 1;
     }
+    let settings = settings_at(first_start, second_start, mode, root);
     let a = face(
-        start,
-        window,
-        mode,
-        root,
+        settings,
+        first,
+        second,
         device,
         process,
         flags,
@@ -157,20 +163,26 @@ pub extern "C" fn yasmurekh_request(
 // A take. Status and `out` as for a request.
 #[no_mangle]
 pub extern "C" fn yasmurekh_take(
-    start: u64,
-    window: &mut [u8],
+    first_start: u64,
+    first: &mut [u8],
+    second_start: u64,
+    second: &mut [u8],
     file: u64,
     identity: u64,
     out: &mut [u64],
 ) -> u64
     ensures told { λ r. ⌜ r ≡ statusOf (taken file identity (now (out .entry))) ⌝ }
-    ensures answer { λ _. ⌜ now (out .exit) ≡ wordsOf (record { start = start; bytes = now (window .entry) }) (taken file identity (now (out .entry))) ⌝ }
-    ensures bytes { λ _. ⌜ now (window .exit) ≡ windowOf (record { start = start; bytes = now (window .entry) }) (taken file identity (now (out .entry))) ⌝ }
+    ensures answer { λ _. ⌜ now (out .exit) ≡ wordsOf (lentAt «first_start» (now (first .entry)) «second_start» (now (second .entry))) (taken file identity (now (out .entry))) ⌝ }
+    ensures bytes { λ _. ⌜ Leaves (leftOf (lentAt «first_start» (now (first .entry)) «second_start» (now (second .entry))) (taken file identity (now (out .entry)))) (now (first .exit)) (now (second .exit)) ⌝ }
 {
     if out.len() < 5 {
         return 1;
     }
-    let a = iommu::take(start, window, file, identity);
+    let starts = Starts {
+        first: first_start,
+        second: second_start,
+    };
+    let a = iommu::take(starts, first, second, file, identity);
     put_answer(out, a);
     0
 }

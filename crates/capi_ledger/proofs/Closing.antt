@@ -13,9 +13,8 @@ use Rattle.iommu_refusals.specs.declared.DeviceRequest.{DeviceRequest}
 use Rattle.iommu.specs.declared.Answer.{Answer}
 use Rattle.iommu.specs.declared.Answer.the-variants.{Refused}
 use Rattle.iommu.specs.Answers.{numbersOf}
-use Rattle.iommu.specs.Request.{requestOf, afterRequest}
-use Rattle.iommu.specs.Files.{takeOf, afterTakeOf}
-use Rattle.iommu.specs.Operations.{Lent, Op, request, take, settings}
+use Rattle.memory.specs.Window.{Lent}
+use Rattle.iommu.specs.Operations.{Op, request, take, answerOf, afterOf}
 use Rattle.ledger.specs.Machine.{asks, asksNothing, AllGranted}
 use Rattle.ledger.specs.Closes.{Closes}
 use Rattle.ledger.proofs.Keeping.{Faith, Faithful}
@@ -42,31 +41,28 @@ room out e = ltb-false (length out) 5 e
 -- a request, by the room of its buffer and by what its numbers name
 module _ (l : Lent) (mode root device process flags access address len value : ℕ) (out : List ℕ) where
   abbrev req : Access → DeviceRequest
-  req x = asked 0 mode root device process flags access address len value [] x
+  req x = asked device process flags address len x
 
   abbrev op : Access → Op
   op x = request mode root (req x) value
 
   known : (x : Access) (f : Bool) → 5 ≤ length out
-      → Faith (pick f asksNothing (asks (op x)))
-      (numbersTold 0 (withAnswer out (pick f (Refused 2010) (requestOf (settings (l .start) mode root) (l .bytes) (req x) value))))
-      (record { start = l .start; bytes = pick f (l .bytes) (afterRequest (settings (l .start) mode root) (l .bytes) (req x) value) }) l
+      → Faith (pick f asksNothing (asks (op x))) (numbersTold 0 (withAnswer out (pick f (Refused 2010) (answerOf l (op x))))) (pick f l (afterOf l (op x))) l
   known x true r = ((2010, words-told out (Refused 2010) r), refl)
-  known x false r = (words-told out (requestOf (settings (l .start) mode root) (l .bytes) (req x) value) r, refl)
+  known x false r = (words-told out (answerOf l (op x)) r, refl)
 
   request-faith : (b : Bool) → ltb (length out) 5 ≡ b → (k : Chosen)
       → Faith (pick b asksNothing (chosenAsked (ltb 3 flags) k op))
-      (numbersTold (pick b 1 0) (pick b out (withAnswer out (chosenFace (l .start) mode root device process flags access address len value (l .bytes) k))))
-      (record { start = l .start; bytes = pick b (l .bytes) (chosenBytes (l .start) mode root device process flags access address len value (l .bytes) k) }) l
+      (numbersTold (pick b 1 0) (pick b out (withAnswer out (chosenFace l mode root device process flags access address len value k))))
+      (pick b l (chosenBytes l mode root device process flags access address len value k)) l
   request-faith true e k = ((0, refl), refl)
   request-faith false e Unknown = ((2010, words-told out (Refused 2010) (room out e)), refl)
   request-faith false e (Known x) = known x (ltb 3 flags) (room out e)
 
 take-faith : (l : Lent) (file n : ℕ) (out : List ℕ) (b : Bool) → ltb (length out) 5 ≡ b
-    → Faith (pick b asksNothing (asks (take file n))) (numbersTold (pick b 1 0) (pick b out (withAnswer out (takeOf (l .start) (l .bytes) file n))))
-    (record { start = l .start; bytes = pick b (l .bytes) (afterTakeOf (l .start) (l .bytes) file n) }) l
+    → Faith (pick b asksNothing (asks (take file n))) (numbersTold (pick b 1 0) (pick b out (withAnswer out (answerOf l (take file n))))) (pick b l (afterOf l (take file n))) l
 take-faith l file n out true e = ((0, refl), refl)
-take-faith l file n out false e = (words-told out (takeOf (l .start) (l .bytes) file n) (room out e), refl)
+take-faith l file n out false e = (words-told out (answerOf l (take file n)) (room out e), refl)
 
 pub functions-faithful : Faithful functions
 unfolding status fitting requestFace afterFace

@@ -1,23 +1,23 @@
--- For code and proofs alone, nothing that a reader has to believe: how the code forms a report's words, the doublewords of a span of the window, 0 outside it.
-use Prim.Native.Nat.{ℕ, zero, suc, _+_, _*_, _-_}
-use mathlib.Core.List.{List}
+-- For code and proofs alone, nothing that a reader has to believe: how the code forms a report's words, the doublewords of a file's bytes, 0 past their end.
+use Prim.Native.Nat.{ℕ, zero, suc, _+_, _*_}
+use mathlib.Core.List.{List, []}
 use lib.Count.{ones}
 use lib.Dec.{ltb}
+use lib.ListN.{length}
 use Rattle.memory.specs.Choice.{pick}
-use Rattle.memory.specs.Window.{doubleword}
+use Rattle.memory.specs.Window.{Lent, doubleword, partOf}
 use Rattle.interrupt_file.specs.declared.Pair.{Pair}
-use Rattle.capi_report.specs.declared.Span.{Span}
 
 -- by the number of the refusal
-abbrev pub spanOf : ℕ → ℕ → ℕ → Span
-spanOf start file zero = record { at = file - start; end = file - start + 512 }
-spanOf start file (suc r) = record { at = 0; end = 0 }
+abbrev pub fileBytes : Lent → ℕ → ℕ → List ℕ
+fileBytes l file zero = partOf l file 512
+fileBytes l file (suc r) = []
 
-abbrev pub wordIn : List ℕ → Span → ℕ → ℕ
-wordIn bytes span i = pick (ltb (span .end) (i + 8)) 0 (doubleword bytes i)
+abbrev pub wordIn : List ℕ → ℕ → ℕ
+wordIn bytes i = pick (ltb (length bytes) (i + 8)) 0 (doubleword bytes i)
 
-unfoldable pub pairIn : List ℕ → Span → ℕ → Pair
-pairIn bytes span k = record { pending = wordIn bytes span (span .at + 16 * k); enable = wordIn bytes span (span .at + 16 * k + 8) }
+unfoldable pub pairIn : List ℕ → ℕ → Pair
+pairIn bytes k = record { pending = wordIn bytes (16 * k); enable = wordIn bytes (16 * k + 8) }
 
 -- the ones of the first k pairs' pending doublewords
 unfoldable pub pendingOnes : (ℕ → Pair) → ℕ → ℕ

@@ -2,8 +2,11 @@
 use Prim.Native.Nat.{ℕ, zero, suc, _+_, _*_}
 use mathlib.Core.List.{List}
 use lib.ListN.{set, getD}
+use Rattle.memory.specs.Window.{Lent}
 use Rattle.interrupt_file.specs.declared.Pair.{Pair}
 use Rattle.interrupt_file.specs.declared.Report.{Report}
+use Rattle.iommu.specs.Files.{reportOf}
+use Rattle.iommu.specs.Operations.{startsOf}
 
 -- the words from the third on: the pending and the enable doubleword of each of the first k pairs
 unfoldable pub withPairs : List ℕ → (ℕ → Pair) → ℕ → List ℕ
@@ -16,3 +19,7 @@ noPair = record { pending = 0; enable = 0 }
 -- a report in 66 words: refusal, count, pairs
 abbrev pub withReport : List ℕ → Report → List ℕ
 withReport out r = set (withPairs (set out 0 (r .refusal)) (λ k. getD (r .pairs) k noPair) 32) 1 (r .count)
+
+-- the report of a file of what is lent
+abbrev pub reportIn : Lent → ℕ → Report
+reportIn l file = reportOf (startsOf l) (l .first .bytes) (l .second .bytes) file

@@ -15,11 +15,11 @@ module _ (n : ℕ) (out : List ℕ) where
   unfolding status
   long-told h = simp (le-ltb (length out) n h)
 
-  pub short-kept : (before after : List ℕ) → length out < n → before ≡ fitting n out before after
+  pub short-kept : {A : Type 0} (before after : A) → length out < n → before ≡ fitting n out before after
   unfolding fitting
   short-kept before after h = simp (lt-ltb (length out) n h)
 
-  pub long-changed : (before after x : List ℕ) → n ≤ length out → x ≡ after → x ≡ fitting n out before after
+  pub long-changed : {A : Type 0} (before after x : A) → n ≤ length out → x ≡ after → x ≡ fitting n out before after
   unfolding fitting
   long-changed before after x h e = e ∙ simp (le-ltb (length out) n h)
 

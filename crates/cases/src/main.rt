@@ -1,4 +1,4 @@
-// The worked cases P5 to P10, P13 and P14 of document 01, run by the proved routines: mark, answer number, three values.
+// The worked cases P5 to P10, P13 and P14 of document 01, run by the proved routines, with an empty second window at 0: mark, answer number, three values.
 use causes::Access;
 use iommu::Answer;
 use libc::STDOUT_FILENO;
@@ -21,9 +21,11 @@ fn show(mark: u64, answer: Answer) {
 
 fn case(mark: u64, first: u64, second: u64, access: Access, address: u64, data: u32) {
     let mut window = layout::window(first, second);
-    let settings = layout::settings();
+    let mut empty = [0u8; 0];
+    let settings = layout::settings(0);
     let request = layout::ask(access, address, 4);
-    show(mark, iommu::request(settings, &mut window, request, data));
+    let answer = iommu::request(settings, &mut window, &mut empty, request, data);
+    show(mark, answer);
 }
 
 // A write under the entry of P6.

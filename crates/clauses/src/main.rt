@@ -13,24 +13,33 @@ fn numbers_after(letter: u8) -> usize {
     match letter {
         b'm' | b's' => 4,
         b'r' => 7,
-        b'w' | b't' | b'x' | b'y' => 2,
+        b'w' | b'n' | b'o' | b'v' | b't' | b'x' | b'y' => 2,
         b'p' | b'd' | b'z' | b'c' | b'g' => 1,
         b'f' => 0,
         _ => 8,
     }
 }
 
-// The rows that need a memory.
-fn on_window(letter: u8, n: [u64; 7], s: State, memory: &mut [u8; 131072]) -> State {
+// The rows that need a memory: `first` and `second` have the bytes of the two windows.
+fn on_window(
+    letter: u8,
+    n: [u64; 7],
+    s: State,
+    first: &mut [u8; 131072],
+    second: &mut [u8; 131072],
+) -> State {
     if !s.memory {
         return state::broken(s);
     }
     match letter {
         b's' => window::lend(s, n),
-        b'w' => window::write(s, n, memory),
-        b'r' => window::request(s, n, memory),
-        b't' => window::take(s, n, memory),
-        _ => window::report(s, n, memory),
+        b'w' => window::write(s, n, first),
+        b'n' => window::renew_second(s, n, second),
+        b'o' => window::lend_second(s, n),
+        b'v' => window::write(s, n, second),
+        b'r' => window::request(s, n, first, second),
+        b't' => window::take(s, n, first, second),
+        _ => window::report(s, n, first, second),
     }
 }
 
@@ -50,29 +59,47 @@ fn on_domain(letter: u8, n: [u64; 7], s: State, domain: &mut [u64; 87]) -> State
 }
 
 // A letter and as many numbers as it has.
-fn obey(row: Row, s: State, memory: &mut [u8; 131072], domain: &mut [u64; 87]) -> State {
+fn obey(
+    row: Row,
+    s: State,
+    first: &mut [u8; 131072],
+    second: &mut [u8; 131072],
+    domain: &mut [u64; 87],
+) -> State {
     let letter = row.letter;
     let n = row.numbers;
     if numbers_after(letter) != row.count {
         return state::broken(s);
     }
     match letter {
-        b'm' => window::renew(s, n, memory),
-        b's' | b'w' | b'r' | b't' | b'p' => on_window(letter, n, s, memory),
+        b'm' => window::renew(s, n, first, second),
+        b's' | b'w' | b'n' | b'o' | b'v' | b'r' | b't' | b'p' => on_window(
+            letter,
+            n,
+            s,
+            first,
+            second,
+        ),
         b'd' => domain::reset(s, n, domain),
         _ => on_domain(letter, n, s, domain),
     }
 }
 
 // An empty line and a remark do nothing.
-fn line(text: &[u8], s: State, memory: &mut [u8; 131072], domain: &mut [u64; 87]) -> State {
+fn line(
+    text: &[u8],
+    s: State,
+    first: &mut [u8; 131072],
+    second: &mut [u8; 131072],
+    domain: &mut [u64; 87],
+) -> State {
     if text.len() == 0 {
         return s;
     }
     if text[0] == b'#' {
         return s;
     }
-    obey(clauses_row::read(text), s, memory, domain)
+    obey(clauses_row::read(text), s, first, second, domain)
 }
 
 fn bad(number: u64) {
@@ -81,14 +108,14 @@ fn bad(number: u64) {
     io::write_all(STDOUT_FILENO, b"\n");
 }
 
-fn run(text: &[u8], memory: &mut [u8; 131072], domain: &mut [u64; 87]) {
+fn run(text: &[u8], first: &mut [u8; 131072], second: &mut [u8; 131072], domain: &mut [u64; 87]) {
     let mut s = state::begin();
     let mut number: u64 = 0;
     let mut at: usize = 0;
     while at < text.len() {
         let end = clauses_row::find(text, at, b'\n');
         number = std::num::wrapping_add_u64(number, 1);
-        s = line(&text[at..end], s, memory, domain);
+        s = line(&text[at..end], s, first, second, domain);
         if s.broken {
             bad(number);
             return;
@@ -104,12 +131,13 @@ fn run(text: &[u8], memory: &mut [u8; 131072], domain: &mut [u64; 87]) {
 fn main() {
     let mut text = [0u8; 262144];
     let mut more = [0u8; 1];
-    let mut memory = [0u8; 131072];
+    let mut first = [0u8; 131072];
+    let mut second = [0u8; 131072];
     let mut domain = [0u64; 87];
     let n = io::read_full(STDIN_FILENO, &mut text);
     if io::read_full(STDIN_FILENO, &mut more) != 0 {
         io::write_all(STDOUT_FILENO, b"the text has more than 262144 bytes\n");
         return;
     }
-    run(&text[..n], &mut memory, &mut domain);
+    run(&text[..n], &mut first, &mut second, &mut domain);
 }

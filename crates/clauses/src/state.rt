@@ -1,11 +1,13 @@
 // What goes from row to row, and what a call prints.
 use libc::STDOUT_FILENO;
 
-// The window's settings (its length as `io::count` takes it), how many calls were answered, whether there is a memory
-// and a domain yet, and whether a row broke the format.
+// Where each window starts and its length (as `io::count` takes it), the directory, how many calls were answered, whether
+// there is a memory and a domain yet, and whether a row broke the format.
 pub struct State {
-    pub start: u64,
-    pub length: isize,
+    pub first_start: u64,
+    pub first_length: isize,
+    pub second_start: u64,
+    pub second_length: isize,
     pub mode: u64,
     pub root: u64,
     pub calls: u64,
@@ -16,8 +18,10 @@ pub struct State {
 
 pub fn begin() -> State {
     State {
-        start: 0,
-        length: 0,
+        first_start: 0,
+        first_length: 0,
+        second_start: 0,
+        second_length: 0,
         mode: 0,
         root: 0,
         calls: 0,

@@ -1,36 +1,38 @@
--- A context in the window, over plain values. Assumes nothing.
-use Prim.Native.Nat.{ℕ, _+_, _-_, _*_, _<_, _≤_, _^_}
-use mathlib.Core.Bool.{Bool, true, false, _&&_, not}
-use mathlib.Core.List.{List}
-use mathlib.Core.Path.{_≡_, refl, sym, ap, _∙_}
+-- A context in what is lent, over plain values. Assumes nothing.
+use Prim.Native.Nat.{ℕ, _+_, _-_, _*_, _/_, _%_, _<_, _≤_, _^_}
+use mathlib.Core.Bool.{Bool, true, false, not}
+use mathlib.Core.List.{List, [], _∷_}
+use mathlib.Core.Path.{_≡_, refl, sym, ap, subst, _∙_}
+use native.Mathlib.Nat.{add-zero}
 use native.Mathlib.Omega.{arith}
-use borrow.Author.Tests.{leb-true}
-use lib.Dec.{leb}
 use lib.ListN.{length}
-use Rattle.memory.specs.Choice.{pick}
-use Rattle.memory.specs.Bits.{bit}
+use Rattle.memory.specs.Choice.{pick, any}
+use Rattle.memory.specs.Bits.{bit, bits, anySet}
 use Rattle.memory.specs.declared.Load.{Load}
 use Rattle.memory.specs.declared.Load.the-variants.{Value, Violation}
 use Rattle.memory.specs.Walk.{Walk, done, onValue, loadOr, run}
-use Rattle.memory.specs.Window.{doubleword, memory}
+use Rattle.memory.specs.declared.Starts.{Starts}
+use Rattle.memory.specs.Window.{doubleword, lent, partOf, memory}
+use Rattle.memory.specs.Code.{Paged}
 use Rattle.memory.proofs.Choices.{yes-by, no-by}
-use Rattle.memory.proofs.Loads.{memory-in}
-use Rattle.memory.proofs.Truth.{and-true}
+use Rattle.memory.proofs.Pages.{paged-word, paged-none}
 use Rattle.memory.proofs.Walks.{then, loads, at}
 use Rattle.causes.specs.declared.FaultInfo.{FaultInfo}
 use Rattle.paging.specs.Stages.{direct}
 use Rattle.paging_entry.specs.declared.Translation.{Translation}
 use Rattle.paging_entry.specs.declared.Translation.the-variants.{To}
+use Rattle.directory_entry.specs.declared.Tree.{Tree}
 use Rattle.directory_entry.specs.declared.Tree.the-variants.{Device}
 use Rattle.directory_entry.specs.Entries.{loadFault, invalid, misconfigured, directoryIndex, pointerOf, leafSize}
 use Rattle.directory_entry.proofs.Entries.{context-unread, context-invalid, context-valid, found-below}
 use Rattle.directory_walk.specs.Pointers.{leafPlace}
-use Rattle.directory_walk.proofs.Pointers.{pointers-end, pointers-stop, pointers-go, fault-below}
+use Rattle.directory_walk.proofs.Pointers.{pointers-end, pointers-stop, pointers-go}
 use Rattle.directory_context.specs.declared.DeviceContext.{DeviceContext}
 use Rattle.directory_context.specs.declared.DecodedContext.{DecodedContext}
 use Rattle.directory_context.specs.Device.{deviceMisconfigured, decodedOf}
 use Rattle.directory_device.specs.declared.DeviceFound.{DeviceFound}
 use Rattle.directory_device.specs.declared.DeviceFound.the-variants.{Context, Fault}
+use Rattle.directory_device.specs.Code.{Placed}
 use Rattle.directory_device.specs.Device.{checkedDevice, deviceWord, deviceContextAt, onDevicePlace, deviceContextOf}
 
 -- by the checks
@@ -42,30 +44,6 @@ module _ (c : DeviceContext) (q : Bool) (hq : q ≡ deviceMisconfigured c) where
   device-right d r h = no-by (deviceMisconfigured c) q (Context d) (Fault (misconfigured Device)) (Context (decodedOf c)) hq r (ap Context h)
 
 pub ruleset device-checked-ways = (device-wrong, device-right)
-
--- a load that gives a value lies in the window
-module _ (start a x : ℕ) (s : List ℕ) (v : Load) (h : v ≡ memory start s a) (e : v ≡ Value x) where
-  within : (leb start a && leb (a + 8) (start + length s)) ≡ true
-  unfolding memory
-  within = go (leb start a && leb (a + 8) (start + length s)) (doubleword s (a - start)) (sym h ∙ e)
-    where
-      go : (t : Bool) (y : ℕ) → pick t (Value y) Violation ≡ Value x → t ≡ true
-      go true y p = refl
-      go false y p = let z : _≡_ {A = ℕ} 0 1 = cc in absurd (omega arith)
-
-  pub value-low : start ≤ a
-  value-low = leb-true start a (and-true (leb start a) _ within .0)
-
-  value-high : a + 8 ≤ start + length s
-  value-high = leb-true (a + 8) (start + length s) (and-true (leb start a) _ within .1)
-
--- where every way through what follows a load gives the fault of a failed load, so does the load
-stuck : {A : Type 0} (m : ℕ → Load) (x : A) (a : ℕ) (k : ℕ → Walk A) → ((w : ℕ) → run m (k w) ≡ x) → run m (loadOr (done x) a k) ≡ x
-stuck m x a k h = go (m a)
-  where
-    go : (v : Load) → run m (onValue (done x) k v) ≡ x
-    go (Value w) = h w
-    go Violation = refl
 
 -- what is read after tc, as the definition has it: each step loads one doubleword more
 module _ (a tc : ℕ) where
@@ -114,61 +92,52 @@ module _ (m : ℕ → Load) (a : ℕ) (v : Load) (hv : v ≡ m a) where
     unfolding deviceContextAt
     valid t h = context-valid m Device Fault a (rest a) v hv tc ev b hb t h
 
-    -- where the last doubleword can't be read, no way through leads past that fault
-    pub device-cut : (u : Load) (f : FaultInfo) → not b ≡ false → u ≡ m (a + 56) → u ≡ Violation → f ≡ loadFault Device → Fault f ≡ run m (deviceContextAt a)
-    device-cut u f t hu eu h = valid t (ap Fault h ∙ sym (stuck m unread (a + 8) (read1 a tc) from16))
-      where
-        last : (g t f p k n : ℕ) → run m (read6 a tc g t f p k n) ≡ unread
-        last g t f p k n =
-            let k7 = onValue (done unread) (read7 a tc g t f p k n) in
-            sym (loads m (a + 56) k7 hu (at m k7 eu refl))
+-- a context by the bytes of its entry, in windows of whole pages
+module _ (starts : Starts) (xs ys : List ℕ) (paged : Paged starts (length xs) (length ys)) (a : ℕ) (aligned : a % 64 ≡ 0)
+    (e : List ℕ) (he : e ≡ partOf (lent starts xs ys) a 64) where
+  abbrev m : ℕ → Load
+  m = memory (lent starts xs ys)
 
-        from16 : (g : ℕ) → run m (read1 a tc g) ≡ unread
-        from16 g =
-            stuck m unread (a + 16) (read2 a tc g)
-            (λ t. stuck m unread (a + 24) (read3 a tc g t)
-            (λ f. stuck m unread (a + 32) (read4 a tc g t f)
-            (λ p. stuck m unread (a + 40) (read5 a tc g t f p)
-            (λ k. stuck m unread (a + 48) (read6 a tc g t f p k)
-            (λ n. last g t f p k n)))))
+  at-multiple : a ≡ 64 * (a / 64)
+  at-multiple = omega arith
 
--- first and last doubleword are read: all of it lies in the window
-module _ (start a tc reserved : ℕ) (s : List ℕ) (v u : Load)
-    (hv : v ≡ memory start s a) (ev : v ≡ Value tc) (hu : u ≡ memory start s (a + 56)) (eu : u ≡ Value reserved) where
-  pub device-low : start ≤ a
-  device-low = value-low start a tc s v hv ev
+  pub entry-unread : (f : FaultInfo) → length e < 64 → f ≡ loadFault Device → Fault f ≡ run m (deviceContextAt a)
+  entry-unread f short h =
+      device-unread m a Violation
+      (paged-none starts xs ys paged 64 64 refl a (a / 64) 0 at-multiple (omega arith) (subst (λ (x : List ℕ). length x < 64) he short) ∙ ap m (add-zero a))
+      f refl h
 
-  pub device-room : a - start + 64 ≤ length s
-  device-room = let lo = device-low in let hi = value-high start (a + 56) reserved s u hu eu in omega arith
+  module _ (long : 64 ≤ length e) where
+    word : (k : ℕ) → k ≤ 56 → Value (doubleword e k) ≡ m (a + k)
+    word k l =
+        ap (λ x. Value (doubleword x k)) he
+        ∙ paged-word starts xs ys paged 64 64 refl a (a / 64) k at-multiple (omega arith) (subst (λ (x : List ℕ). 64 ≤ length x) he long)
 
-  word : (k : ℕ) → k ≤ 56 → Value (doubleword s (a - start + k)) ≡ memory start s (a + k)
-  word k l =
-      let lo = device-low in let hi = device-room in
-      let e : a + k - start ≡ a - start + k = omega arith in
-      ap (λ i. Value (doubleword s i)) (sym e) ∙ memory-in start (a + k) s (omega arith) (omega arith)
+    module _ (tc : ℕ) (ht : tc ≡ doubleword e 0) (b : Bool) (hb : b ≡ bit tc 0) where
+      head : Value tc ≡ m a
+      head = ap Value ht ∙ word 0 (omega arith) ∙ ap m (add-zero a)
 
-  module _ (b : Bool) (hb : b ≡ bit tc 0) (t : not b ≡ false) (c : DeviceContext)
-      (hc : c ≡ record { tc = tc; iohgatp = doubleword s (a - start + 8); ta = doubleword s (a - start + 16); fsc = doubleword s (a - start + 24); msiptp = doubleword s (a - start + 32); mask = doubleword s (a - start + 40); pattern = doubleword s (a - start + 48); reserved = reserved }) where
-    abbrev w : ℕ → ℕ
-    w k = doubleword s (a - start + k)
+      pub entry-invalid : (f : FaultInfo) → not b ≡ true → f ≡ invalid Device → Fault f ≡ run m (deviceContextAt a)
+      entry-invalid f t h = device-invalid m a (Value tc) head tc refl b hb f t h
 
-    -- one doubleword more is read
-    next : (k : ℕ) → k ≤ 56 → (f : ℕ → Walk DeviceFound) {x : DeviceFound} → x ≡ run (memory start s) (f (w k)) → x ≡ run (memory start s) (loadOr (done unread) (a + k) f)
-    next k l f e = loads (memory start s) (a + k) (onValue (done unread) f) (word k l) e
+      -- one doubleword more is read
+      next : (k : ℕ) → k ≤ 56 → (f : ℕ → Walk DeviceFound) {x : DeviceFound} → x ≡ run m (f (doubleword e k)) → x ≡ run m (loadOr (done unread) (a + k) f)
+      next k l f h = loads m (a + k) (onValue (done unread) f) (word k l) h
 
-    pub device-read : (x : DeviceFound) → x ≡ checkedDevice c → x ≡ run (memory start s) (deviceContextAt a)
-    device-read x e =
-        let k7 = onValue (done unread) (read7 a tc (w 8) (w 16) (w 24) (w 32) (w 40) (w 48)) in
-        valid (memory start s) a v hv tc ev b hb t
-        (next 8 (omega arith) (read1 a tc)
-        (next 16 (omega arith) (read2 a tc (w 8))
-        (next 24 (omega arith) (read3 a tc (w 8) (w 16))
-        (next 32 (omega arith) (read4 a tc (w 8) (w 16) (w 24))
-        (next 40 (omega arith) (read5 a tc (w 8) (w 16) (w 24) (w 32))
-        (next 48 (omega arith) (read6 a tc (w 8) (w 16) (w 24) (w 32) (w 40))
-        (loads (memory start s) (a + 56) k7 hu (at (memory start s) k7 eu (e ∙ ap checkedDevice hc)))))))))
+      pub entry-read : (c : DeviceContext) (x : DeviceFound) → not b ≡ false
+          → c ≡ record { tc = tc; iohgatp = doubleword e 8; ta = doubleword e 16; fsc = doubleword e 24; msiptp = doubleword e 32; mask = doubleword e 40; pattern = doubleword e 48; reserved = doubleword e 56 }
+          → x ≡ checkedDevice c → x ≡ run m (deviceContextAt a)
+      entry-read c x t hc h =
+          valid m a (Value tc) head tc refl b hb t
+          (next 8 (omega arith) (read1 a tc)
+          (next 16 (omega arith) (read2 a tc (doubleword e 8))
+          (next 24 (omega arith) (read3 a tc (doubleword e 8) (doubleword e 16))
+          (next 32 (omega arith) (read4 a tc (doubleword e 8) (doubleword e 16) (doubleword e 24))
+          (next 40 (omega arith) (read5 a tc (doubleword e 8) (doubleword e 16) (doubleword e 24) (doubleword e 32))
+          (next 48 (omega arith) (read6 a tc (doubleword e 8) (doubleword e 16) (doubleword e 24) (doubleword e 32) (doubleword e 40))
+          (next 56 (omega arith) (read7 a tc (doubleword e 8) (doubleword e 16) (doubleword e 24) (doubleword e 32) (doubleword e 40) (doubleword e 48)) (h ∙ ap checkedDevice hc))))))))
 
-pub ruleset device-context-ways = (device-unread, device-invalid, device-cut, device-low, device-room, device-read)
+pub ruleset device-context-ways = (entry-unread, entry-invalid, entry-read)
 
 -- a turn of the walk to where the context lies, with left - 1 levels above it: i is the index there, w the whole walk's answer
 module _ (m : ℕ → Load) (d left table i : ℕ) (w : Translation)
@@ -184,10 +153,38 @@ module _ (m : ℕ → Load) (d left table i : ℕ) (w : Translation)
     pub walk-goes : (k : ℕ) → y ≡ To k → run m (leafPlace Device d direct (left - 1 - 1) k) ≡ w
     walk-goes k e = pointers-go m Device d direct left table i (To (table + 8 * i)) w hw p hi refl (table + 8 * i) v y refl hv hy k e
 
-pub leaf-below : (table k : ℕ) → table < 2 ^ 56 → k < 2 ^ 15 → table + k < 2 ^ 60
-leaf-below table k h l = omega arith
+-- a context lies on 64 bytes, below 2^60
+pub leaf-placed : (table i k : ℕ) → table < 2 ^ 56 → table % 4096 ≡ 0 → k < 2 ^ 15 → k ≡ leafSize Device * i → (table + k < 2 ^ 60) × ((table + k) % 64 ≡ 0)
+leaf-placed table i k h p l e = (omega arith, omega arith)
 
-pub ruleset device-place-ways = (walk-ends, walk-stops, walk-goes, leaf-below, fault-below, found-below)
+-- the next table is a page
+pub next-page : (t : Tree) (v : Load) (y : Translation) (k : ℕ) → y ≡ pointerOf t v → y ≡ To k → k % 4096 ≡ 0
+unfolding pointerOf
+next-page t v y k hy e = go v (sym hy ∙ e)
+  where
+    other : (f : FaultInfo) → Translation.Fault f ≡ To k → k % 4096 ≡ 0
+    other f p = let z : _≡_ {A = ℕ} 0 1 = cc in absurd (omega arith)
+
+    valid-entry : (x : ℕ) (p q : Bool) → pick p (pick q (Translation.Fault (misconfigured t)) (To (x * 4096))) (Translation.Fault (invalid t)) ≡ To k → k % 4096 ≡ 0
+    valid-entry x true true h = other _ h
+    valid-entry x true false h = let z : x * 4096 ≡ k = cc in omega arith
+    valid-entry x false q h = other _ h
+
+    go : (u : Load) → pointerOf t u ≡ To k → k % 4096 ≡ 0
+    go Violation h = other _ h
+    go (Value x) h = valid-entry (bits x 53 10) (bit x 0) (any (anySet x 9 1 ∷ anySet x 63 54 ∷ [])) h
+
+pub fault-placed : (r : Translation) (f : FaultInfo) → r ≡ Translation.Fault f → Placed r
+fault-placed r f e = subst Placed (sym e) tt
+
+module _ (r : Translation) (a : ℕ) (e : r ≡ To a) (h : Placed r) where
+  pub found-low : a < 2 ^ 60
+  found-low = subst Placed e h .0
+
+  pub found-aligned : a % 64 ≡ 0
+  found-aligned = subst Placed e h .1
+
+pub ruleset device-place-ways = (walk-ends, walk-stops, walk-goes, leaf-placed, next-page, fault-placed, found-below)
 
 -- the context of a device, by where it lies
 module _ (m : ℕ → Load) (levels root d : ℕ) (y : Translation)
@@ -201,4 +198,4 @@ module _ (m : ℕ → Load) (levels root d : ℕ) (y : Translation)
   unfolding deviceContextOf
   device-found a z e h = then m (leafPlace Device d direct (levels - 1) (root * 4096)) onDevicePlace hy (at m onDevicePlace e h)
 
-pub ruleset device-ways = (device-unfound, device-found, found-below)
+pub ruleset device-ways = (device-unfound, device-found, found-low, found-aligned)

@@ -3,18 +3,18 @@ use causes::FaultInfo;
 use directory_context::DecodedContext;
 use directory_context::DeviceContext;
 use directory_entry::Tree;
-use memory::Load;
+use memory::Starts;
 use paging_entry::Translation;
 ghost use mathlib.Core.Path.{_≡_};
 ghost use lib.ListN.{length};
-ghost use Prim.Native.Nat.{_+_, _-_, _*_, _<_, _≤_, _^_};
-ghost use Rattle.memory.specs.Window.{doubleword, memory};
+ghost use Prim.Native.Nat.{_-_, _*_, _%_, _<_, _≤_, _^_};
+ghost use Rattle.memory.specs.Window.{doubleword, lent, memory};
 ghost use Rattle.memory.specs.Walk.{run};
+ghost use Rattle.memory.specs.Code.{Paged};
 ghost use Rattle.paging.specs.Stages.{direct};
-ghost use Rattle.directory_entry.specs.Code.{Below};
 ghost use Rattle.directory_walk.specs.Pointers.{leafPlace};
 ghost use Rattle.directory_device.specs.Device.{checkedDevice, deviceContextAt, deviceContextOf};
-ghost use Rattle.directory_device.specs.Code.{SoundFound};
+ghost use Rattle.directory_device.specs.Code.{Placed, SoundFound};
 
 pub enum DeviceFound {
     Context(DecodedContext),
@@ -33,20 +33,20 @@ impl DeviceFound {
     }
 }
 
-// The context at an index of the lent bytes, whose first and last doublewords are known.
-fn words_at(bytes: &[u8], i: usize, tc: u64, reserved: u64) -> DeviceContext
-    requires { ⌜ i + 64 ≤ length (now bytes) ⌝ }
-    ensures { λ r. ⌜ r ≡ record { tc = tc; iohgatp = doubleword (now (bytes .entry)) (i + 8); ta = doubleword (now (bytes .entry)) (i + 16); fsc = doubleword (now (bytes .entry)) (i + 24); msiptp = doubleword (now (bytes .entry)) (i + 32); mask = doubleword (now (bytes .entry)) (i + 40); pattern = doubleword (now (bytes .entry)) (i + 48); reserved = reserved } ⌝ }
+// The context in the bytes of its entry, whose first doubleword is known.
+fn words_of(bytes: &[u8], tc: u64) -> DeviceContext
+    requires { ⌜ 64 ≤ length (now bytes) ⌝ }
+    ensures { λ r. ⌜ r ≡ record { tc = tc; iohgatp = doubleword (now (bytes .entry)) 8; ta = doubleword (now (bytes .entry)) 16; fsc = doubleword (now (bytes .entry)) 24; msiptp = doubleword (now (bytes .entry)) 32; mask = doubleword (now (bytes .entry)) 40; pattern = doubleword (now (bytes .entry)) 48; reserved = doubleword (now (bytes .entry)) 56 } ⌝ }
 {
     DeviceContext {
-        tc: tc,
-        iohgatp: memory::doubleword_at(bytes, i + 8),
-        ta: memory::doubleword_at(bytes, i + 16),
-        fsc: memory::doubleword_at(bytes, i + 24),
-        msiptp: memory::doubleword_at(bytes, i + 32),
-        mask: memory::doubleword_at(bytes, i + 40),
-        pattern: memory::doubleword_at(bytes, i + 48),
-        reserved: reserved,
+        tc,
+        iohgatp: memory::doubleword_at(bytes, 8),
+        ta: memory::doubleword_at(bytes, 16),
+        fsc: memory::doubleword_at(bytes, 24),
+        msiptp: memory::doubleword_at(bytes, 32),
+        mask: memory::doubleword_at(bytes, 40),
+        pattern: memory::doubleword_at(bytes, 48),
+        reserved: memory::doubleword_at(bytes, 56),
     }
 }
 
@@ -60,36 +60,43 @@ fn checked_device(c: DeviceContext) -> DeviceFound
     DeviceFound::Context(directory_context::decode(c))
 }
 
-// The context at an address. Where its first and last doublewords can be read, so can all between.
-fn device_context_at(start: u64, window: &[u8], a: u64) -> DeviceFound
-    requires { ⌜ a < 2 ^ 60 ⌝ }
-    ensures { λ r. ⌜ (r ≡ run (memory start (now (window .entry))) (deviceContextAt a)) × SoundFound r ⌝ }
+// The context at an address: on whole pages it lies in one window or in none.
+fn device_context_at<'a>(starts: Starts, first: &'a [u8], second: &'a [u8], a: u64) -> DeviceFound
+    requires { ⌜ (a % 64 ≡ 0) × (a < 2 ^ 60) × Paged starts (length (now first)) (length (now second)) ⌝ }
+    ensures { λ r. ⌜ (r ≡ run (memory (lent starts (now (first .entry)) (now (second .entry)))) (deviceContextAt a)) × SoundFound r ⌝ }
 {
-    let first = memory::load64(start, window, a);
-    let Load::Value(tc) = first else {
+    let entry = memory::entry(starts, first, second, a, 64);
+    if entry.len() < 64 {
         return DeviceFound::Fault(directory_entry::load_fault(Tree::Device));
-    };
+    }
+    let tc = memory::doubleword_at(entry, 0);
     if !memory::bit(tc, 0) {
         return DeviceFound::Fault(directory_entry::invalid(Tree::Device));
     }
-    let last = memory::load64(start, window, a + 56);
-    let Load::Value(reserved) = last else {
-        return DeviceFound::Fault(directory_entry::load_fault(Tree::Device));
-    };
-    checked_device(words_at(window, (a - start) as usize, tc, reserved))
+    checked_device(words_of(entry, tc))
 }
 
 // From the root's page to where the context of a device lies. A loop of its own beside the process directory's, which asks the second stage at each step: this one has one caller and is inlined there.
-fn device_place(levels: u64, root: u64, d: u64, start: u64, window: &[u8]) -> Translation
+fn device_place<'a>(
+    levels: u64,
+    root: u64,
+    d: u64,
+    starts: Starts,
+    first: &'a [u8],
+    second: &'a [u8],
+) -> Translation
     requires { ⌜ root < 2 ^ 44 ⌝ }
-    ensures { λ r. ⌜ (r ≡ run (memory start (now (window .entry))) (leafPlace Tree.Device d direct (levels - 1) (root * 4096))) × Below (2 ^ 60) r ⌝ }
+    ensures { λ r. ⌜ (r ≡ run (memory (lent starts (now (first .entry)) (now (second .entry)))) (leafPlace Tree.Device d direct (levels - 1) (root * 4096))) × Placed r ⌝ }
 {
     let mut left = levels;
     let mut table = root * 4096;
     while 1 < left {
         left -= 1;
         let at = table + 8 * directory_entry::directory_index(Tree::Device, d, left);
-        let next = directory_entry::pointer(Tree::Device, memory::load64(start, window, at));
+        let next = directory_entry::pointer(
+            Tree::Device,
+            memory::load64(starts, first, second, at),
+        );
         let Translation::To(below) = next else {
             return next;
         };
@@ -100,13 +107,20 @@ fn device_place(levels: u64, root: u64, d: u64, start: u64, window: &[u8]) -> Tr
 }
 
 // The context of a device, from the directory's root page and number of levels.
-pub fn device_context(levels: u64, root: u64, d: u64, start: u64, window: &[u8]) -> DeviceFound
-    requires { ⌜ root < 2 ^ 44 ⌝ }
-    ensures { λ r. ⌜ (r ≡ run (memory start (now (window .entry))) (deviceContextOf levels root d)) × SoundFound r ⌝ }
+pub fn device_context<'a>(
+    levels: u64,
+    root: u64,
+    d: u64,
+    starts: Starts,
+    first: &'a [u8],
+    second: &'a [u8],
+) -> DeviceFound
+    requires { ⌜ (root < 2 ^ 44) × Paged starts (length (now first)) (length (now second)) ⌝ }
+    ensures { λ r. ⌜ (r ≡ run (memory (lent starts (now (first .entry)) (now (second .entry)))) (deviceContextOf levels root d)) × SoundFound r ⌝ }
 {
-    let place = device_place(levels, root, d, start, window);
+    let place = device_place(levels, root, d, starts, first, second);
     let Translation::To(a) = place else {
         return DeviceFound::Fault(directory_walk::fault_of(place));
     };
-    device_context_at(start, window, a)
+    device_context_at(starts, first, second, a)
 }

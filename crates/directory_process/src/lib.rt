@@ -5,11 +5,12 @@ use directory_context::DecodedContext;
 use directory_context::ProcessContext;
 use directory_entry::Tree;
 use memory::Load;
+use memory::Starts;
 use paging::PageTable;
 use paging_entry::Translation;
 ghost use mathlib.Core.Path.{_≡_};
 ghost use Prim.Native.Nat.{_<_, _^_};
-ghost use Rattle.memory.specs.Window.{memory};
+ghost use Rattle.memory.specs.Window.{lent, memory};
 ghost use Rattle.memory.specs.Walk.{run};
 ghost use Rattle.directory_context.specs.Code.{SoundContext};
 ghost use Rattle.directory_process.specs.Process.{checkedProcess, processContextAt, processTable, processTooWide, firstTableOf};
@@ -53,35 +54,40 @@ fn checked_process(supervisor: bool, c: ProcessContext) -> PageTableInfo
 }
 
 // The context at an address.
-fn process_context_at(supervisor: bool, start: u64, window: &[u8], a: u64) -> PageTableInfo
+fn process_context_at<'a>(
+    supervisor: bool,
+    starts: Starts,
+    first: &'a [u8],
+    second: &'a [u8],
+    a: u64,
+) -> PageTableInfo
     requires { ⌜ a < 2 ^ 60 ⌝ }
-    ensures { λ r. ⌜ (r ≡ run (memory start (now (window .entry))) (processContextAt supervisor a)) × Rooted r ⌝ }
+    ensures { λ r. ⌜ (r ≡ run (memory (lent starts (now (first .entry)) (now (second .entry)))) (processContextAt supervisor a)) × Rooted r ⌝ }
 {
-    let first = memory::load64(start, window, a);
-    let Load::Value(ta) = first else {
+    let Load::Value(ta) = memory::load64(starts, first, second, a) else {
         return PageTableInfo::Fault(directory_entry::load_fault(Tree::Process));
     };
     if !memory::bit(ta, 0) {
         return PageTableInfo::Fault(directory_entry::invalid(Tree::Process));
     }
-    let second = memory::load64(start, window, a + 8);
-    let Load::Value(fsc) = second else {
+    let Load::Value(fsc) = memory::load64(starts, first, second, a + 8) else {
         return PageTableInfo::Fault(directory_entry::load_fault(Tree::Process));
     };
     checked_process(supervisor, ProcessContext { ta: ta, fsc: fsc })
 }
 
 // The first stage of a process.
-fn process_table(
+fn process_table<'a>(
     c: DecodedContext,
     supervisor: bool,
     x: Access,
     p: u64,
-    start: u64,
-    window: &[u8],
+    starts: Starts,
+    first: &'a [u8],
+    second: &'a [u8],
 ) -> PageTableInfo
     requires { ⌜ SoundContext c ⌝ }
-    ensures { λ r. ⌜ (r ≡ run (memory start (now (window .entry))) (processTable c supervisor x p)) × Rooted r ⌝ }
+    ensures { λ r. ⌜ (r ≡ run (memory (lent starts (now (first .entry)) (now (second .entry)))) (processTable c supervisor x p)) × Rooted r ⌝ }
 {
     if directory_entry::bare(c.fsc) {
         return PageTableInfo::Use(directory_entry::bare_table(), false);
@@ -94,13 +100,14 @@ fn process_table(
         p,
         directory_entry::root_mode(c.fsc),
         directory_entry::root_page(c.fsc),
-        start,
-        window,
+        starts,
+        first,
+        second,
     );
     let Translation::To(a) = place else {
         return PageTableInfo::Fault(directory_walk::fault_of(place));
     };
-    process_context_at(supervisor, start, window, a)
+    process_context_at(supervisor, starts, first, second, a)
 }
 
 // A process_id wider than the process directory's mode allows.
@@ -125,16 +132,17 @@ fn wanted(dpe: bool, process: ProcessId) -> ProcessId
 }
 
 // The first stage's table for a request, and SUM. One call of `process_table`, so that it is inlined here.
-pub fn first_table(
+pub fn first_table<'a>(
     c: DecodedContext,
     process: ProcessId,
     supervisor: bool,
     x: Access,
-    start: u64,
-    window: &[u8],
+    starts: Starts,
+    first: &'a [u8],
+    second: &'a [u8],
 ) -> PageTableInfo
     requires { ⌜ SoundContext c ⌝ }
-    ensures { λ r. ⌜ (r ≡ run (memory start (now (window .entry))) (firstTableOf c process supervisor x)) × Rooted r ⌝ }
+    ensures { λ r. ⌜ (r ≡ run (memory (lent starts (now (first .entry)) (now (second .entry)))) (firstTableOf c process supervisor x)) × Rooted r ⌝ }
 {
     if !c.pdtv {
         let ProcessId::Given(_) = process else {
@@ -149,5 +157,5 @@ pub fn first_table(
     if process_too_wide(c.fsc, p) {
         return PageTableInfo::Fault(causes::disallowed());
     }
-    process_table(c, supervisor, x, p, start, window)
+    process_table(c, supervisor, x, p, starts, first, second)
 }

@@ -1,7 +1,7 @@
 -- A turn of the walk over non-leaf entries, over plain values. Assumes nothing.
 use Prim.Native.Nat.{ℕ, suc, _+_, _-_, _*_, _<_, _≤_, _^_}
 use native.Mathlib.Omega.{arith}
-use mathlib.Core.Bool.{true, false}
+use mathlib.Core.Bool.{false}
 use mathlib.Core.Path.{_≡_, refl, sym, ap, _∙_, subst}
 use Rattle.memory.specs.declared.Load.{Load}
 use Rattle.memory.specs.Walk.{Walk, run}

@@ -2,13 +2,14 @@
 use causes::Access;
 use causes::FaultInfo;
 use directory_entry::Tree;
+use memory::Starts;
 use paging::PageTable;
 use paging_entry::Purpose;
 use paging_entry::Translation;
 ghost use mathlib.Core.Path.{_≡_};
 ghost use mathlib.Core.Bool.{false};
 ghost use Prim.Native.Nat.{_-_, _*_, _<_, _^_};
-ghost use Rattle.memory.specs.Window.{memory};
+ghost use Rattle.memory.specs.Window.{lent, memory};
 ghost use Rattle.memory.specs.Walk.{run};
 ghost use Rattle.paging_scheme.specs.Scheme.{signedOf};
 ghost use Rattle.paging.specs.Code.{Within};
@@ -26,45 +27,53 @@ pub fn fault_of(t: Translation) -> FaultInfo
 }
 
 // Where the entry at an address lies: the second stage says, where it is on. Its test stands here, so that a Bare one costs no call.
-fn place(g: PageTable, x: Access, start: u64, window: &[u8], a: u64) -> Translation
+fn place<'a>(
+    g: PageTable,
+    x: Access,
+    starts: Starts,
+    first: &'a [u8],
+    second: &'a [u8],
+    a: u64,
+) -> Translation
     requires { ⌜ (g .root < 2 ^ 44) × (signedOf (g .scheme) ≡ false) ⌝ }
-    ensures { λ r. ⌜ (r ≡ run (memory start (now (window .entry))) (guestPlace g x a)) × Within a r ⌝ }
+    ensures { λ r. ⌜ (r ≡ run (memory (lent starts (now (first .entry)) (now (second .entry)))) (guestPlace g x a)) × Within a r ⌝ }
 {
     if g.on {
-        return paging::second_stage(g, Purpose::ProcessEntry, x, start, window, a);
+        return paging::second_stage(g, Purpose::ProcessEntry, x, starts, first, second, a);
     }
     Translation::To(a)
 }
 
 // From the root's page to where the context of a device or a process lies, by the second stage g: for the device directory a Bare one.
-pub fn leaf_place(
+pub fn leaf_place<'a>(
     t: Tree,
     g: PageTable,
     x: Access,
     id: u64,
     levels: u64,
     root: u64,
-    start: u64,
-    window: &[u8],
+    starts: Starts,
+    first: &'a [u8],
+    second: &'a [u8],
 ) -> Translation
     requires { ⌜ (root < 2 ^ 44) × (g .root < 2 ^ 44) × (signedOf (g .scheme) ≡ false) ⌝ }
-    ensures { λ r. ⌜ (r ≡ run (memory start (now (window .entry))) (leafPlace t id (guestPlace g x) (levels - 1) (root * 4096))) × Below (2 ^ 60) r ⌝ }
+    ensures { λ r. ⌜ (r ≡ run (memory (lent starts (now (first .entry)) (now (second .entry)))) (leafPlace t id (guestPlace g x) (levels - 1) (root * 4096))) × Below (2 ^ 60) r ⌝ }
 {
     let mut left = levels;
     let mut table = root * 4096;
     while 1 < left {
         left -= 1;
         let at = table + 8 * directory_entry::directory_index(t, id, left);
-        let found = place(g, x, start, window, at);
+        let found = place(g, x, starts, first, second, at);
         let Translation::To(a) = found else {
             return found;
         };
-        let next = directory_entry::pointer(t, memory::load64(start, window, a));
+        let next = directory_entry::pointer(t, memory::load64(starts, first, second, a));
         let Translation::To(below) = next else {
             return next;
         };
         table = below;
     }
     let leaf = table + directory_entry::leaf_offset(t, directory_entry::directory_index(t, id, 0));
-    place(g, x, start, window, leaf)
+    place(g, x, starts, first, second, leaf)
 }

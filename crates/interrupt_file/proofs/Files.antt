@@ -4,10 +4,11 @@ use mathlib.Core.Bool.{Bool, true, false}
 use mathlib.Core.List.{List}
 use mathlib.Core.Path.{_≡_, refl, ap, _∙_}
 use native.Mathlib.Omega.{arith}
-use borrow.Author.Tests.{eqb-true, leb-true, eq-eqb, le-leb}
+use borrow.Author.Tests.{eqb-true, leb-true, eq-eqb, ne-eqb, le-leb}
 use borrow.Rule.Slice.PartMut.{midOf, putMid, set-mid-at}
 use lib.ListN.{length, getD, set, length-take, length-drop}
 use lib.Seq.{getD-drop, getD-take}
+use Rattle.memory.specs.Window.{inside}
 use Rattle.memory.proofs.Truth.{and-true}
 use Rattle.interrupt_file.specs.Bit.{bitAt, withBit, withoutBit}
 use Rattle.interrupt_file.specs.File.{isFile, placeOf, pendingOf, afterStore, afterTake}
@@ -37,6 +38,17 @@ module _ {start len file : ℕ} where
 
   pub no-file : (FileAt start len file → ⊥) → false ≡ isFile start len file
   no-file h = not-so _ (λ e. h (file-at e))
+
+-- the tests of the code
+pub off-place : (start len file : ℕ) → (file % 512 ≡ 0 → ⊥) → false ≡ isFile start len file
+unfolding isFile
+off-place start len file h = simp (ne-eqb (file % 512) 0 h)
+
+pub in-place : (start len file : ℕ) (b : Bool) → file % 512 ≡ 0 → b ≡ inside start len file 512 → b ≡ isFile start len file
+unfolding isFile
+in-place start len file b h e = simp (eq-eqb (file % 512) 0 h) e
+
+pub ruleset file-ways = (off-place, in-place)
 
 -- a part of a slice, lent and back with one element changed, is the slice with that element changed
 mid-set : (a n j : ℕ) (f : ℕ → ℕ) (xs ys : List ℕ) → j < n → a + n ≤ length xs

@@ -7,10 +7,10 @@ use Rattle.memory.specs.Window.{doubleword}
 use Rattle.interrupt_file.specs.declared.Pair.{Pair}
 use Rattle.interrupt_file.specs.declared.Report.{Report}
 
--- the file stands at index `at` of the window's bytes
-module _ (bytes : List ℕ) (at : ℕ) where
+-- of a file's bytes
+module _ (bytes : List ℕ) where
   abbrev pub pairOf : ℕ → Pair
-  pairOf k = record { pending = doubleword bytes (at + 16 * k); enable = doubleword bytes (at + 16 * k + 8) }
+  pairOf k = record { pending = doubleword bytes (16 * k); enable = doubleword bytes (16 * k + 8) }
 
   -- its first k pairs, and the ones in their pending doublewords
   unfoldable pub pairsOf : ℕ → List Pair
@@ -19,7 +19,7 @@ module _ (bytes : List ℕ) (at : ℕ) where
 
   unfoldable pub countOf : ℕ → ℕ
   countOf zero = 0
-  countOf (suc k) = countOf k + ones (doubleword bytes (at + 16 * k))
+  countOf (suc k) = countOf k + ones (doubleword bytes (16 * k))
 
   abbrev pub fileReport : Report
   fileReport = record { refusal = 0; count = countOf 32; pairs = pairsOf 32 }

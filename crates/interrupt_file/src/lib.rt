@@ -21,23 +21,14 @@ pub struct Report {
     pub pairs: [Pair; 32],
 }
 
-// Whether an address is that of a file that lies whole in the window; no sum here can wrap.
+// Whether an address is that of a file that lies whole in a window.
 pub fn is_file(start: u64, len: u64, file: u64) -> bool
     ensures { λ r. ⌜ r ≡ isFile start len file ⌝ }
 {
     if file % 512 != 0 {
         return false;
     }
-    if file < start {
-        return false;
-    }
-    if len < 512 {
-        return false;
-    }
-    if len - 512 < file - start {
-        return false;
-    }
-    true
+    memory::holds(start, len, file, 512)
 }
 
 // The index of the doubleword that holds an identity's pending bit; the pairs are 16 bytes apart.
@@ -97,10 +88,10 @@ pub fn ones(x: u64) -> u64
     u64::count_ones(x) as u64
 }
 
-// A report of the file at an index of the window.
-pub fn file_report(window: &[u8], at: usize) -> Report
-    requires { ⌜ at + 512 ≤ length (now window) ⌝ }
-    ensures { λ r. ⌜ r ≡ fileReport (now (window .entry)) at ⌝ }
+// A report of a file's bytes.
+pub fn file_report(file: &[u8]) -> Report
+    requires { ⌜ 512 ≤ length (now file) ⌝ }
+    ensures { λ r. ⌜ r ≡ fileReport (now (file .entry)) ⌝ }
 {
     let none = Pair {
         pending: 0,
@@ -110,8 +101,8 @@ pub fn file_report(window: &[u8], at: usize) -> Report
     let mut count: u64 = 0;
     let mut k: usize = 0;
     while k < 32 {
-        let pending = memory::doubleword_at(window, at + 16 * k);
-        let enable = memory::doubleword_at(window, at + 16 * k + 8);
+        let pending = memory::doubleword_at(file, 16 * k);
+        let enable = memory::doubleword_at(file, 16 * k + 8);
         pairs[k] = Pair {
             pending: pending,
             enable: enable,

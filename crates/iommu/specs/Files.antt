@@ -1,21 +1,44 @@
--- The take of a pending interrupt, and the report of a file.
-use Prim.Native.Nat.{ℕ, _-_}
+-- The take of a pending interrupt, and the report of a file, in whichever window holds it.
+use Prim.Native.Nat.{ℕ}
+use mathlib.Core.Bool.{Bool}
 use mathlib.Core.List.{List}
 use lib.ListN.{length}
-use Rattle.memory.specs.Choice.{unlessRefused}
-use Rattle.interrupt_file.specs.File.{pendingOf, afterTake}
+use Rattle.memory.specs.Choice.{pick, unlessRefused}
+use Rattle.memory.specs.declared.Starts.{Starts}
+use Rattle.memory.specs.Window.{Lent, lent, partOf}
+use Rattle.interrupt_file.specs.File.{isFile, pendingOf, afterTake}
 use Rattle.interrupt_file.specs.Report.{fileReport, refusedReport}
 use Rattle.interrupt_file.specs.declared.Report.{Report}
 use Rattle.iommu.specs.declared.Answer.{Answer}
 use Rattle.iommu.specs.declared.Answer.the-variants.{Refused, Taken}
 use Rattle.iommu_refusals.specs.Refusals.{takeRefusal, reportRefusal}
 
--- "6 take made: 1 if it was pending, else 0"
-unfoldable pub takeOf : ℕ → List ℕ → ℕ → ℕ → Answer
-takeOf start bytes file n = unlessRefused (takeRefusal start (length bytes) file n) Refused (Taken (pendingOf start bytes file n))
+-- the windows' starts and bytes
+module _ (starts : Starts) (first second : List ℕ) where
+  -- whether a file that lies in either window lies in the first
+  abbrev pub inFirst : ℕ → Bool
+  inFirst file = isFile (starts .first) (length first) file
 
-unfoldable pub afterTakeOf : ℕ → List ℕ → ℕ → ℕ → List ℕ
-afterTakeOf start bytes file n = unlessRefused (takeRefusal start (length bytes) file n) (λ r. bytes) (afterTake start bytes file n)
+  -- what is lent, with one window's bytes changed: that of the window in which the file lies
+  abbrev pub changedAt : ℕ → (ℕ → List ℕ → List ℕ) → Lent
+  changedAt file change =
+      lent starts (pick (inFirst file) (change (starts .first) first) first) (pick (inFirst file) second (change (starts .second) second))
 
-unfoldable pub reportOf : ℕ → List ℕ → ℕ → Report
-reportOf start bytes file = unlessRefused (reportRefusal start (length bytes) file) refusedReport (fileReport bytes (file - start))
+  abbrev pub pendingAt : ℕ → ℕ → ℕ
+  pendingAt file n = pick (inFirst file) (pendingOf (starts .first) first file n) (pendingOf (starts .second) second file n)
+
+  -- "A take clears the same bit"
+  abbrev pub takenAt : ℕ → ℕ → Lent
+  takenAt file n = changedAt file (λ start bytes. afterTake start bytes file n)
+
+  -- "6 take made: 1 if it was pending, else 0"
+  unfoldable pub takeOf : ℕ → ℕ → Answer
+  takeOf file n = unlessRefused (takeRefusal starts (length first) (length second) file n) Refused (Taken (pendingAt file n))
+
+  unfoldable pub afterTakeOf : ℕ → ℕ → Lent
+  afterTakeOf file n =
+      unlessRefused (takeRefusal starts (length first) (length second) file n) (λ r. lent starts first second) (takenAt file n)
+
+  unfoldable pub reportOf : ℕ → Report
+  reportOf file =
+      unlessRefused (reportRefusal starts (length first) (length second) file) refusedReport (fileReport (partOf (lent starts first second) file 512))

@@ -1,4 +1,5 @@
 pub mod Answers
-pub mod Request
 pub mod Files
+pub mod Request
 pub mod Operations
+pub mod Code

@@ -1,24 +1,26 @@
 -- The whole request: the checks, the walk, and the finish; the answer, the bytes after, and the addresses read.
-use Prim.Native.Nat.{ℕ, _+_, _-_, _*_, _%_, _<_}
+use Prim.Native.Nat.{ℕ, _+_, _*_, _%_, _<_}
 use mathlib.Core.Path.{_≡_}
 use mathlib.Core.Bool.{Bool, true, _&&_, _||_}
 use mathlib.Core.List.{List, [], _∷_}
 use lib.Dec.{eqb, leb}
-use lib.ListN.{length, getD}
+use lib.ListN.{length}
 use Rattle.memory.specs.Choice.{pick, unlessRefused}
 use Rattle.memory.specs.Bits.{bits}
-use Rattle.memory.specs.Window.{inside, memory}
+use Rattle.memory.specs.declared.Starts.{Starts}
+use Rattle.memory.specs.Window.{Window, Lent, lent, holds, byteAt, memory}
 use Rattle.memory.specs.Walk.{run, trace}
 use Rattle.causes.specs.Causes.{isWrite}
-use Rattle.interrupt_file.specs.File.{isFile, afterStore}
+use Rattle.interrupt_file.specs.File.{afterStore}
 use Rattle.iommu_refusals.specs.declared.Settings.{Settings}
 use Rattle.iommu_refusals.specs.declared.DeviceRequest.{DeviceRequest}
 use Rattle.iommu_translation.specs.declared.Outcome.{Outcome}
 use Rattle.iommu_translation.specs.declared.Outcome.the-variants.{Recorded}
 use Rattle.iommu.specs.declared.Answer.{Answer}
 use Rattle.iommu.specs.declared.Answer.the-variants.{Translated, Redirected, Stored, Discarded, Fault, Refused, Taken}
-use Rattle.iommu_refusals.specs.Refusals.{requestRefusal}
+use Rattle.iommu_refusals.specs.Refusals.{isLentFile, requestRefusal}
 use Rattle.iommu_translation.specs.Translate.{translateOf}
+use Rattle.iommu.specs.Files.{changedAt}
 
 -- the four bytes of a data value reversed
 abbrev pub reversed : ℕ → ℕ
@@ -37,39 +39,47 @@ storableAs q identity =
 abbrev pub storable : DeviceRequest → ℕ → Bool
 storable q d = storableAs q (identityOf q d)
 
--- the answer from what the tables say: "other accesses under M = 1 are discarded, before 2007 is looked at"
-unfoldable pub finish : ℕ → ℕ → DeviceRequest → ℕ → Outcome → Answer
-finish start len q d (Outcome.Translated a) = Translated a
-finish start len q d (Outcome.Redirected a) = Redirected a
-finish start len q d (Outcome.Fault f) = Fault f
-finish start len q d (Recorded n) = pick (storable q d) (pick (isFile start len (n .file)) (Stored n) (Refused 2007)) Discarded
+-- the answer from what the tables say: "other accesses under M = 1 are discarded, before 2007 is looked at"; n and m are the windows' lengths
+unfoldable pub finish : Starts → ℕ → ℕ → DeviceRequest → ℕ → Outcome → Answer
+finish starts n m q d (Outcome.Translated a) = Translated a
+finish starts n m q d (Outcome.Redirected a) = Redirected a
+finish starts n m q d (Outcome.Fault f) = Fault f
+finish starts n m q d (Recorded e) = pick (storable q d) (pick (isLentFile starts n m (e .file)) (Stored e) (Refused 2007)) Discarded
 
--- the answer to a request with its data value, on a window's bytes
-unfoldable pub requestOf : Settings → List ℕ → DeviceRequest → ℕ → Answer
-requestOf s bytes q d =
-    unlessRefused (requestRefusal s (length bytes) q) Refused
-    (finish (s .start) (length bytes) q d (run (memory (s .start) bytes) (translateOf s q)))
+-- the answer to a request with its data value, on the bytes of both windows
+unfoldable pub requestOf : Settings → List ℕ → List ℕ → DeviceRequest → ℕ → Answer
+requestOf s first second q d =
+    unlessRefused (requestRefusal s (length first) (length second) q) Refused
+    (finish (s .starts) (length first) (length second) q d (run (memory (lent (s .starts) first second)) (translateOf s q)))
 
--- "Only answers 2 and 6 may change the window": the bytes after, from the answer
-abbrev pub storedBy : ℕ → List ℕ → DeviceRequest → ℕ → Answer → List ℕ
-storedBy start bytes q d (Stored n) = afterStore start bytes (n .file) (identityOf q d)
-storedBy start bytes q d (Translated a) = bytes
-storedBy start bytes q d (Redirected a) = bytes
-storedBy start bytes q d Discarded = bytes
-storedBy start bytes q d (Fault f) = bytes
-storedBy start bytes q d (Refused r) = bytes
-storedBy start bytes q d (Taken w) = bytes
+-- a file's identity made pending
+abbrev pub storedAt : Starts → List ℕ → List ℕ → ℕ → ℕ → Lent
+storedAt starts first second file n = changedAt starts first second file (λ start bytes. afterStore start bytes file n)
 
-unfoldable pub afterRequest : Settings → List ℕ → DeviceRequest → ℕ → List ℕ
+-- "Only answers 2 and 6 may change the window": what is lent after, from the answer; "a store changes at most one byte of one window"
+abbrev pub storedBy : Starts → List ℕ → List ℕ → DeviceRequest → ℕ → Answer → Lent
+storedBy starts first second q d (Stored e) = storedAt starts first second (e .file) (identityOf q d)
+storedBy starts first second q d (Translated a) = lent starts first second
+storedBy starts first second q d (Redirected a) = lent starts first second
+storedBy starts first second q d Discarded = lent starts first second
+storedBy starts first second q d (Fault f) = lent starts first second
+storedBy starts first second q d (Refused r) = lent starts first second
+storedBy starts first second q d (Taken w) = lent starts first second
+
+unfoldable pub afterRequest : Settings → List ℕ → List ℕ → DeviceRequest → ℕ → Lent
 unfolding requestOf
-afterRequest s bytes q d = storedBy (s .start) bytes q d (requestOf s bytes q d)
+afterRequest s first second q d = storedBy (s .starts) first second q d (requestOf s first second q d)
 
 -- the addresses of the doublewords that a request reads as tables: none where a check refuses it first
-unfoldable pub readsOf : Settings → List ℕ → DeviceRequest → List ℕ
-readsOf s bytes q = unlessRefused (requestRefusal s (length bytes) q) (λ r. []) (trace (memory (s .start) bytes) (translateOf s q))
+unfoldable pub readsOf : Settings → List ℕ → List ℕ → DeviceRequest → List ℕ
+readsOf s first second q =
+    unlessRefused (requestRefusal s (length first) (length second) q) (λ r. []) (trace (memory (lent (s .starts) first second)) (translateOf s q))
 
--- two windows at one start have the same bytes in each doubleword that is read at an address of a list, where it lies in the window
-abbrev pub SameAt : ℕ → List ℕ → List ℕ → List ℕ → Type 0
-SameAt start xs ys [] = Unit {0}
-SameAt start xs ys (p ∷ ps) =
-    (inside start (length xs) p 8 ≡ true → (k : ℕ) → k < 8 → getD xs (p - start + k) 0 ≡ getD ys (p - start + k) 0) × SameAt start xs ys ps
+-- two windows have the same bytes in the doubleword at an address, where the first of them holds it
+abbrev pub SameIn : Window → Window → ℕ → Type 0
+SameIn w v p = holds w p 8 ≡ true → (k : ℕ) → k < 8 → byteAt w (p + k) ≡ byteAt v (p + k)
+
+-- what is lent has the same bytes in each doubleword that is read at an address of a list, in each window
+abbrev pub SameAt : Lent → Lent → List ℕ → Type 0
+SameAt l k [] = Unit {0}
+SameAt l k (p ∷ ps) = SameIn (l .first) (k .first) p × SameIn (l .second) (k .second) p × SameAt l k ps

@@ -1,15 +1,23 @@
-// One request, one answer: the whole path over one lent window.
+// One request, one answer: the whole path over what is lent.
 use causes::FaultInfo;
 use interrupt_file::Report;
 use iommu_refusals::DeviceRequest;
 use iommu_refusals::Settings;
 use iommu_translation::Outcome;
+use memory::Starts;
 use message::Destination;
 ghost use mathlib.Core.Path.{_≡_};
+ghost use mathlib.Core.Bool.{true};
+ghost use Prim.Native.Nat.{_<_};
 ghost use lib.ListN.{length};
+ghost use Rattle.memory.specs.Choice.{pick};
+ghost use Rattle.memory.specs.Window.{Leaves};
+ghost use Rattle.interrupt_file.specs.File.{isFile, afterStore};
 ghost use Rattle.iommu.specs.Answers.{numbers as numbersBy, numbersOf, Answered};
 ghost use Rattle.iommu.specs.Request.{reversed as reversedOf, identityOf, storableAs, finish as finishOf, storedBy, requestOf, afterRequest};
-ghost use Rattle.iommu.specs.Files.{takeOf, afterTakeOf, reportOf};
+ghost use Rattle.iommu_refusals.specs.Refusals.{isLentFile};
+ghost use Rattle.iommu.specs.Files.{pendingAt, takenAt, takeOf, afterTakeOf, reportOf};
+ghost use Rattle.iommu.specs.Code.{storedIf};
 
 // What a request or a take is answered.
 pub enum Answer {
@@ -61,26 +69,45 @@ fn numbered(kind: u64, first: u64) -> Numbers
     }
 }
 
-// Takes a pending interrupt of a file.
-pub fn take(start: u64, window: &mut [u8], file: u64, identity: u64) -> Answer
-    ensures answer { λ r. ⌜ Answered r (takeOf start (now (window .entry)) file identity) ⌝ }
-    ensures bytes { λ _. ⌜ now (window .exit) ≡ afterTakeOf start (now (window .entry)) file identity ⌝ }
+// Clears the pending bit of a file's identity in whichever window holds the file, and gives what it was.
+fn take_lent(starts: Starts, first: &mut [u8], second: &mut [u8], file: u64, identity: u64) -> u64
+    requires { ⌜ (isLentFile starts (length (now first)) (length (now second)) file ≡ true) × (identity < 2048) ⌝ }
+    ensures answer { λ r. ⌜ r ≡ pendingAt starts (now (first .entry)) (now (second .entry)) file identity ⌝ }
+    ensures bytes { λ _. ⌜ Leaves (takenAt starts (now (first .entry)) (now (second .entry)) file identity) (now (first .exit)) (now (second .exit)) ⌝ }
 {
-    let refusal = iommu_refusals::take_refusal(start, window.len() as u64, file, identity);
+    if interrupt_file::is_file(starts.first, first.len() as u64, file) {
+        return interrupt_file::take(starts.first, first, file, identity);
+    }
+    interrupt_file::take(starts.second, second, file, identity)
+}
+
+// Takes a pending interrupt of a file.
+pub fn take(starts: Starts, first: &mut [u8], second: &mut [u8], file: u64, identity: u64) -> Answer
+    ensures answer { λ r. ⌜ Answered r (takeOf starts (now (first .entry)) (now (second .entry)) file identity) ⌝ }
+    ensures bytes { λ _. ⌜ Leaves (afterTakeOf starts (now (first .entry)) (now (second .entry)) file identity) (now (first .exit)) (now (second .exit)) ⌝ }
+{
+    let n = first.len() as u64;
+    let m = second.len() as u64;
+    let refusal = iommu_refusals::take_refusal(starts, n, m, file, identity);
     if refusal == 0 {
-        let was = interrupt_file::take(start, window, file, identity);
+        let was = take_lent(starts, first, second, file, identity);
         return Answer::Taken(was);
     }
     Answer::Refused(refusal)
 }
 
 // Reports a file: its pairs of doublewords, and how many identities are pending.
-pub fn report(start: u64, window: &[u8], file: u64) -> Report
-    ensures { λ r. ⌜ r ≡ reportOf start (now (window .entry)) file ⌝ }
+pub fn report<'a>(starts: Starts, first: &'a [u8], second: &'a [u8], file: u64) -> Report
+    ensures { λ r. ⌜ r ≡ reportOf starts (now (first .entry)) (now (second .entry)) file ⌝ }
 {
-    let refusal = iommu_refusals::report_refusal(start, window.len() as u64, file);
+    let refusal = iommu_refusals::report_refusal(
+        starts,
+        first.len() as u64,
+        second.len() as u64,
+        file,
+    );
     if refusal == 0 {
-        return interrupt_file::file_report(window, (file - start) as usize);
+        return interrupt_file::file_report(memory::entry(starts, first, second, file, 512));
     }
     interrupt_file::refused_report(refusal)
 }
@@ -118,21 +145,46 @@ fn storable(q: DeviceRequest, n: u64) -> bool
     false
 }
 
+// Makes an identity of a file pending where a window holds the file, and says whether it does.
+fn store_in(start: u64, window: &mut [u8], file: u64, n: u64) -> bool
+    requires { ⌜ n < 2048 ⌝ }
+    ensures answer { λ r. ⌜ r ≡ isFile start (length (now (window .entry))) file ⌝ }
+    ensures bytes { λ r. ⌜ now (window .exit) ≡ pick r (afterStore start (now (window .entry)) file n) (now (window .entry)) ⌝ }
+{
+    if interrupt_file::is_file(start, window.len() as u64, file) {
+        interrupt_file::store(start, window, file, n);
+        return true;
+    }
+    false
+}
+
+// The same in whichever window holds it.
+fn store_lent(starts: Starts, first: &mut [u8], second: &mut [u8], file: u64, n: u64) -> bool
+    requires { ⌜ n < 2048 ⌝ }
+    ensures answer { λ r. ⌜ r ≡ isLentFile starts (length (now (first .entry))) (length (now (second .entry))) file ⌝ }
+    ensures bytes { λ r. ⌜ Leaves (storedIf r starts (now (first .entry)) (now (second .entry)) file n) (now (first .exit)) (now (second .exit)) ⌝ }
+{
+    if store_in(starts.first, first, file, n) {
+        return true;
+    }
+    store_in(starts.second, second, file, n)
+}
+
 // Records a message in its file, or says why not.
 fn record_message(
-    start: u64,
-    window: &mut [u8],
+    starts: Starts,
+    first: &mut [u8],
+    second: &mut [u8],
     q: DeviceRequest,
     value: u32,
     d: Destination,
 ) -> Answer
-    ensures answer { λ r. ⌜ r ≡ finishOf start (length (now (window .entry))) q value (Outcome.Recorded d) ⌝ }
-    ensures bytes { λ r. ⌜ now (window .exit) ≡ storedBy start (now (window .entry)) q value r ⌝ }
+    ensures answer { λ r. ⌜ r ≡ finishOf starts (length (now (first .entry))) (length (now (second .entry))) q value (Outcome.Recorded d) ⌝ }
+    ensures bytes { λ r. ⌜ Leaves (storedBy starts (now (first .entry)) (now (second .entry)) q value r) (now (first .exit)) (now (second .exit)) ⌝ }
 {
     let n = identity(q, value);
     if storable(q, n) {
-        if interrupt_file::is_file(start, window.len() as u64, d.file) {
-            interrupt_file::store(start, window, d.file, n);
+        if store_lent(starts, first, second, d.file, n) {
             return Answer::Stored(d);
         }
         return Answer::Refused(2007);
@@ -141,13 +193,20 @@ fn record_message(
 }
 
 // One request, one answer.
-pub fn request(s: Settings, window: &mut [u8], q: DeviceRequest, value: u32) -> Answer
-    ensures answer { λ r. ⌜ Answered r (requestOf s (now (window .entry)) q value) ⌝ }
-    ensures bytes { λ _. ⌜ now (window .exit) ≡ afterRequest s (now (window .entry)) q value ⌝ }
+pub fn request(
+    s: Settings,
+    first: &mut [u8],
+    second: &mut [u8],
+    q: DeviceRequest,
+    value: u32,
+) -> Answer
+    ensures answer { λ r. ⌜ Answered r (requestOf s (now (first .entry)) (now (second .entry)) q value) ⌝ }
+    ensures bytes { λ _. ⌜ Leaves (afterRequest s (now (first .entry)) (now (second .entry)) q value) (now (first .exit)) (now (second .exit)) ⌝ }
 {
-    let number = iommu_refusals::request_refusal(s, window.len() as u64, q);
+    let starts = s.starts;
+    let number = iommu_refusals::request_refusal(s, first.len() as u64, second.len() as u64, q);
     if number == 0 {
-        let outcome = iommu_translation::translate(s, q, window);
+        let outcome = iommu_translation::translate(s, q, first, second);
         match outcome {
             Outcome::Translated(a) => {
                 return Answer::Translated(a);
@@ -159,7 +218,7 @@ pub fn request(s: Settings, window: &mut [u8], q: DeviceRequest, value: u32) -> 
                 return Answer::Fault(f);
             }
             Outcome::Recorded(d) => {
-                return record_message(s.start, window, q, value, d);
+                return record_message(starts, first, second, q, value, d);
             }
         }
     }

@@ -1,13 +1,19 @@
 -- What follows where no check refuses. Assumes nothing.
-use Prim.Native.Nat.{ℕ, zero, suc, _+_, _-_, _%_, _<_, _≤_, _^_}
-use mathlib.Core.Bool.{Bool, true, false, _&&_}
+use Prim.Native.Nat.{ℕ, zero, suc, _%_, _<_, _≤_, _^_}
+use mathlib.Core.Bool.{Bool, true, false, _&&_, _||_}
+use mathlib.Core.List.{List}
 use mathlib.Core.Path.{_≡_, refl, sym, ap, _∙_, subst}
 use native.Mathlib.Omega.{arith}
-use lib.Dec.{eqb, leb}
-use borrow.Author.Tests.{leb-true}
+use lib.Dec.{eqb}
+use lib.ListN.{length}
 use Rattle.memory.specs.Choice.{unlessRefused}
+use Rattle.memory.specs.Code.{Paged}
+use Rattle.memory.specs.declared.Starts.{Starts}
+use Rattle.memory.specs.Window.{inside, lent, partOf}
+use Rattle.memory.proofs.Loads.{part-long-first, part-long-second}
 use Rattle.interrupt_file.specs.File.{isFile}
 use Rattle.iommu_refusals.specs.declared.Settings.{Settings}
+use Rattle.iommu_refusals.specs.Refusals.{overlap, isLentFile}
 use Rattle.iommu_refusals.specs.Code.{Accepted, Takeable, Reportable}
 
 -- what a number of the checks gives
@@ -22,32 +28,53 @@ pub stopped : {A : Type 0} (n m : ℕ) (f : ℕ → A) (a x : A) → n ≡ m →
 stopped n m f a x e h k = k ∙ stopped-at n f a h ∙ ap (λ (i : ℕ). unlessRefused i f a) e
 
 -- a request
-pub accepted-mode : (s : Settings) (r : ℕ) → Accepted s r → r ≡ 0 → s .mode < 5
-accepted-mode s r h z = let k : Accepted s 0 = subst (Accepted s) z h in k .0
+module _ (s : Settings) (n m r : ℕ) (h : Accepted s n m r) (z : r ≡ 0) where
+  all : Accepted s n m 0
+  all = subst (Accepted s n m) z h
 
-pub accepted-root : (s : Settings) (r : ℕ) → Accepted s r → r ≡ 0 → s .root < 2 ^ 44
-accepted-root s r h z = let k : Accepted s 0 = subst (Accepted s) z h in k .1
+  pub accepted-mode : s .mode < 5
+  accepted-mode = all .0
+
+  pub accepted-root : s .root < 2 ^ 44
+  accepted-root = all .1
+
+  pub accepted-paged : Paged (s .starts) n m
+  accepted-paged = all .2
+
+  pub accepted-apart : overlap (s .starts) n m ≡ false
+  accepted-apart = all .3
+
+-- a file that is in either window and not in the first is in the second
+pub in-second : (starts : Starts) (n m file : ℕ) (b : Bool) → isLentFile starts n m file ≡ true → b ≡ isFile (starts .first) n file → b ≡ false
+    → isFile (starts .second) m file ≡ true
+in-second starts n m file b h hb o = simp (← hb, o) at h
 
 -- a take
-pub take-in-window : (start len file n r : ℕ) → Takeable start len file n r → r ≡ 0 → isFile start len file ≡ true
-take-in-window start len file n r h z = let k : Takeable start len file n 0 = subst (Takeable start len file n) z h in k .0
+module _ (starts : Starts) (n m file i r : ℕ) (h : Takeable starts n m file i r) (z : r ≡ 0) where
+  pub take-lent : isLentFile starts n m file ≡ true
+  take-lent = subst (Takeable starts n m file i) z h .0
 
-pub take-identity : (start len file n r : ℕ) → Takeable start len file n r → r ≡ 0 → n < 2048
-take-identity start len file n r h z = let k : Takeable start len file n 0 = subst (Takeable start len file n) z h in k .1
+  pub take-identity : i < 2048
+  take-identity = subst (Takeable starts n m file i) z h .1
 
--- a report: the file lies in the window
-pub in-window : (start len file r : ℕ) → Reportable start len file r → r ≡ 0 → (start ≤ file) × (file - start + 512 ≤ len)
+-- a report
+pub report-lent : (starts : Starts) (n m file r : ℕ) → Reportable starts n m file r → r ≡ 0 → isLentFile starts n m file ≡ true
+report-lent starts n m file r h z = subst (Reportable starts n m file) z h
+
+-- the bytes of a file that is in either window
+pub file-bytes : (starts : Starts) (xs ys : List ℕ) (file : ℕ) → isLentFile starts (length xs) (length ys) file ≡ true → 512 ≤ length (partOf (lent starts xs ys) file 512)
 unfolding isFile
-in-window start len file r h z = go (eqb (file % 512) 0) (leb start file) (leb (file + 512) (start + len)) refl refl (subst (Reportable start len file) z h)
+file-bytes starts xs ys file h = go (eqb (file % 512) 0) (inside (starts .first) (length xs) file 512) (inside (starts .second) (length ys) file 512) refl refl h
   where
-    go : (a b c : Bool) → leb start file ≡ b → leb (file + 512) (start + len) ≡ c → (a && (b && c)) ≡ true → (start ≤ file) × (file - start + 512 ≤ len)
-    go true true true e f t = let k = leb-true start file e in (k, omega (arith, leb-true (file + 512) (start + len) f))
-    go true true false e f t = let k : _≡_ {A = ℕ} 0 1 = cc in (omega arith, omega arith)
-    go true false c e f t = let k : _≡_ {A = ℕ} 0 1 = cc in (omega arith, omega arith)
-    go false b c e f t = let k : _≡_ {A = ℕ} 0 1 = cc in (omega arith, omega arith)
-
-pub file-above : (start len file r : ℕ) → Reportable start len file r → r ≡ 0 → start ≤ file
-file-above start len file r h z = in-window start len file r h z .0
-
-pub file-fits : (start len file r : ℕ) → Reportable start len file r → r ≡ 0 → file - start + 512 ≤ len
-file-fits start len file r h z = in-window start len file r h z .1
+    go : (a p q : Bool) → inside (starts .first) (length xs) file 512 ≡ p → inside (starts .second) (length ys) file 512 ≡ q → ((a && p) || (a && q)) ≡ true
+        → 512 ≤ length (partOf (lent starts xs ys) file 512)
+    go a true q e f t = omega (arith, part-long-first starts xs ys file 512 e)
+    go a false true e f t = omega (arith, part-long-second starts xs ys file 512 e f)
+    go true false false e f t = absurd (no t)
+      where
+        no : false ≡ true → ⊥
+        no k = let z : _≡_ {A = ℕ} 0 1 = cc in omega arith
+    go false false false e f t = absurd (no t)
+      where
+        no : false ≡ true → ⊥
+        no k = let z : _≡_ {A = ℕ} 0 1 = cc in omega arith

@@ -1,23 +1,27 @@
 -- The checks before the walk, by the tests that the code makes. Assumes nothing.
-use Prim.Native.Nat.{ℕ, _+_, _-_, _%_, _^_, _<_, _≤_}
+use Prim.Native.Nat.{ℕ, zero, suc, _+_, _-_, _%_, _^_, _<_, _≤_}
 use mathlib.Core.Bool.{Bool, true, false, not, _&&_, _||_}
-use mathlib.Core.Path.{_≡_, refl, sym, ap, _∙_}
+use mathlib.Core.List.{[], _∷_}
+use mathlib.Core.Path.{_≡_, refl, sym, ap, ap₂, subst, _∙_}
 use native.Mathlib.Omega.{arith}
 use lib.Dec.{eqb, leb, ltb}
-use borrow.Author.Tests.{ne-eqb, lt-ltb, le-ltb, ltb-false, leb-false}
+use borrow.Author.Tests.{ne-eqb, eqb-true, eqb-false, lt-ltb, le-ltb, ltb-false, leb-false}
+use Rattle.memory.specs.Choice.{pick, firstBad}
+use Rattle.memory.specs.Code.{Paged}
+use Rattle.memory.specs.declared.Starts.{Starts}
 use Rattle.memory.proofs.Choices.{ltb-same}
 use Rattle.directory_process.specs.declared.ProcessId.{ProcessId}
 use Rattle.directory_process.specs.declared.ProcessId.the-variants.{Absent, Given}
 use Rattle.interrupt_file.specs.File.{isFile}
 use Rattle.iommu_refusals.specs.declared.Settings.{Settings}
 use Rattle.iommu_refusals.specs.declared.DeviceRequest.{DeviceRequest}
-use Rattle.iommu_refusals.specs.Refusals.{badWindow, badDirectory, badProcess, absent, badLength, requestRefusal, takeRefusal, reportRefusal}
+use Rattle.iommu_refusals.specs.Refusals.{check, badWindow, badWindows, overlap, isLentFile, badDirectory, badProcess, absent, badLength, requestRefusal, takeRefusal, reportRefusal}
+use Rattle.iommu_refusals.specs.Code.{offPages, windowRefusal, Whole, Accepted, Takeable, Reportable}
 
 -- a number that the code gives is the definition's
 pub is-number : {n r : ℕ} (k : ℕ) → k ≡ r → n ≡ k → n ≡ r
 is-number k h e = e ∙ h
 
--- 2001: the first two tests joined
 no-way : _≡_ {A = ℕ} 0 1 → ⊥
 no-way e = omega arith
 
@@ -25,36 +29,155 @@ abbrev number : Bool → ℕ
 number true = 1
 number false = 0
 
-either : (a b c : Bool) → a || b ≡ true → true ≡ a || (b || c)
-either true b c h = refl
-either false true c h = refl
-either false false c h = absurd (no-way (ap number h))
+true-false : true ≡ false → ⊥
+true-false h = no-way (sym (ap number h))
 
-neither : (a b c : Bool) → a || b ≡ false → c ≡ a || (b || c)
-neither false false c h = refl
-neither false true c h = absurd (no-way (sym (ap number h)))
-neither true b c h = absurd (no-way (sym (ap number h)))
+-- 2001: four tests joined, and two windows' ends
+either : (a b c d x y : Bool) → (((a || b) || c) || d) ≡ true → true ≡ ((a || (b || x)) || (c || (d || y)))
+either true b c d x y h = refl
+either false true c d x y h = refl
+either false false true d true y h = refl
+either false false true d false y h = refl
+either false false false true true y h = refl
+either false false false true false y h = refl
+either false false false false x y h = absurd (true-false (sym h))
 
-module _ (start len : ℕ) where
-  abbrev off : Bool
-  off = not (eqb (start % 4096) 0) || not (eqb (len % 4096) 0)
+neither : (a b c d x y : Bool) → (((a || b) || c) || d) ≡ false → (x || y) ≡ ((a || (b || x)) || (c || (d || y)))
+neither false false false false x y h = refl
+neither false false false true x y h = absurd (true-false h)
+neither false false true d x y h = absurd (true-false h)
+neither false true c d x y h = absurd (true-false h)
+neither true b c d x y h = absurd (true-false h)
 
-  pub window-off : off ≡ true → true ≡ badWindow start len
+pub high-start : (start len : ℕ) → 72057594037927936 < start → true ≡ ltb (2 ^ 56) (start + len)
+high-start start len k = sym (lt-ltb (2 ^ 56) (start + len) (omega arith))
+
+pub high-end : (start len : ℕ) → start ≤ 72057594037927936 → ltb (72057594037927936 - start) len ≡ ltb (2 ^ 56) (start + len)
+high-end start len k = ltb-same (72057594037927936 - start) len (2 ^ 56) (start + len) (λ x. omega arith) (λ x. omega arith)
+
+module _ (starts : Starts) (n m : ℕ) (b : Bool) (hb : b ≡ offPages starts n m) where
+  abbrev off : ℕ → Bool
+  off x = not (eqb (x % 4096) 0)
+
+  pub windows-off : b ≡ true → true ≡ badWindows starts n m
   unfolding badWindow
-  window-off h = either (not (eqb (start % 4096) 0)) (not (eqb (len % 4096) 0)) _ h
+  windows-off t =
+      either (off (starts .first)) (off n) (off (starts .second)) (off m) (ltb (2 ^ 56) (starts .first + n)) (ltb (2 ^ 56) (starts .second + m)) (sym hb ∙ t)
 
-  module _ (h : off ≡ false) where
-    pub window-high : 72057594037927936 < start → true ≡ badWindow start len
-    unfolding badWindow
-    window-high k = sym (lt-ltb (2 ^ 56) (start + len) (omega arith)) ∙ neither (not (eqb (start % 4096) 0)) (not (eqb (len % 4096) 0)) _ h
+  pub windows-high : (x y : Bool) → b ≡ false → x ≡ ltb (2 ^ 56) (starts .first + n) → y ≡ ltb (2 ^ 56) (starts .second + m) → (x || y) ≡ badWindows starts n m
+  unfolding badWindow
+  windows-high x y t hx hy =
+      ap₂ (λ p q. p || q) hx hy
+      ∙ neither (off (starts .first)) (off n) (off (starts .second)) (off m) (ltb (2 ^ 56) (starts .first + n)) (ltb (2 ^ 56) (starts .second + m)) (sym hb ∙ t)
 
-    pub window-end : start ≤ 72057594037927936 → ltb (72057594037927936 - start) len ≡ badWindow start len
-    unfolding badWindow
-    window-end k =
-        ltb-same (72057594037927936 - start) len (2 ^ 56) (start + len) (λ x. omega arith) (λ x. omega arith)
-        ∙ neither (not (eqb (start % 4096) 0)) (not (eqb (len % 4096) 0)) _ h
+pub ruleset window-ways = (high-start, high-end, windows-off, windows-high)
 
-pub ruleset window-ways = (window-off, window-high, window-end)
+pos : (x : ℕ) → (x ≡ 0 → ⊥) → 0 < x
+pos zero h = absurd (h refl)
+pos (suc x) h = omega arith
+
+and-yes : (b : Bool) → b ≡ (b && true)
+and-yes true = refl
+and-yes false = refl
+
+-- 2011: the one that starts later starts in the other
+module _ (starts : Starts) (n m : ℕ) where
+  pub overlap-empty : (eqb n 0 || eqb m 0) ≡ true → false ≡ overlap starts n m
+  unfolding overlap
+  overlap-empty h = go (eqb n 0) (eqb m 0) (ltb (starts .first) (starts .second + m) && ltb (starts .second) (starts .first + n)) h
+    where
+      go : (p q r : Bool) → (p || q) ≡ true → false ≡ (not p && (not q && r))
+      go true q r e = refl
+      go false true r e = refl
+      go false false r e = absurd (true-false (sym e))
+
+  module _ (h : (eqb n 0 || eqb m 0) ≡ false) where
+    full : (p q : Bool) → (p || q) ≡ false → (p ≡ false) × (q ≡ false)
+    full false false e = (refl, refl)
+    full false true e = absurd (true-false e)
+    full true q e = absurd (true-false e)
+
+    tests : {r : Bool} → r ≡ (ltb (starts .first) (starts .second + m) && ltb (starts .second) (starts .first + n)) → r ≡ overlap starts n m
+    unfolding overlap
+    tests e = let f = full (eqb n 0) (eqb m 0) h in simp (f .0, f .1) e
+
+    pub overlap-later : starts .first ≤ starts .second → ltb (starts .second - starts .first) n ≡ overlap starts n m
+    overlap-later k =
+        let z = eqb-false m 0 (full (eqb n 0) (eqb m 0) h .1) in
+        let some : 0 < m = pos m z in
+        tests
+        (simp (lt-ltb (starts .first) (starts .second + m) (omega arith))
+        (ltb-same (starts .second - starts .first) n (starts .second) (starts .first + n) (λ x. omega arith) (λ x. omega arith)))
+
+    pub overlap-sooner : starts .second < starts .first → ltb (starts .first - starts .second) m ≡ overlap starts n m
+    overlap-sooner k =
+        let z = eqb-false n 0 (full (eqb n 0) (eqb m 0) h .0) in
+        let some : 0 < n = pos n z in
+        tests
+        (simp (lt-ltb (starts .second) (starts .first + n) (omega arith))
+        (ltb-same (starts .first - starts .second) m (starts .first) (starts .second + m) (λ x. omega arith) (λ x. omega arith)
+        ∙ and-yes (ltb (starts .first) (starts .second + m))))
+
+pub ruleset overlap-ways = (overlap-empty, overlap-later, overlap-sooner)
+
+-- the checks that all calls begin with
+module _ (starts : Starts) (n m : ℕ) (b : Bool) (hb : b ≡ badWindows starts n m) where
+  pub window-2001 : b ≡ true → 2001 ≡ windowRefusal starts n m
+  unfolding windowRefusal
+  window-2001 t = simp (← hb, t)
+
+  module _ (o : b ≡ false) (v : Bool) (hv : v ≡ overlap starts n m) where
+    pub window-2011 : v ≡ true → 2011 ≡ windowRefusal starts n m
+    unfolding windowRefusal
+    window-2011 t = simp (← hb, o, ← hv, t)
+
+    pub window-passes : v ≡ false → 0 ≡ windowRefusal starts n m
+    unfolding windowRefusal
+    window-passes t = simp (← hb, o, ← hv, t)
+
+  pub window-paged : b ≡ false → Paged starts n m
+  unfolding badWindow
+  window-paged t =
+      go (eqb (starts .first % 4096) 0) (eqb (n % 4096) 0) (eqb (starts .second % 4096) 0) (eqb (m % 4096) 0) (ltb (2 ^ 56) (starts .first + n))
+      (ltb (2 ^ 56) (starts .second + m)) refl refl refl refl (sym hb ∙ t)
+    where
+      go : (p q r s x y : Bool) → eqb (starts .first % 4096) 0 ≡ p → eqb (n % 4096) 0 ≡ q → eqb (starts .second % 4096) 0 ≡ r → eqb (m % 4096) 0 ≡ s
+          → ((not p || (not q || x)) || (not r || (not s || y))) ≡ false → Paged starts n m
+      go true true true true x y e f g h z = (eqb-true _ _ e, eqb-true _ _ f, eqb-true _ _ g, eqb-true _ _ h)
+      go false q r s x y e f g h z = absurd (true-false z)
+      go true false r s x y e f g h z = absurd (true-false z)
+      go true true false s true y e f g h z = absurd (true-false z)
+      go true true false s false y e f g h z = absurd (true-false z)
+      go true true true false true y e f g h z = absurd (true-false z)
+      go true true true false false y e f g h z = absurd (true-false z)
+
+-- a flag is what it is of
+pub windows-clear : (starts : Starts) (n m : ℕ) (v : Bool) → v ≡ overlap starts n m → v ≡ false → overlap starts n m ≡ false
+windows-clear starts n m v h t = sym h ∙ t
+
+pub ruleset windows-checks = (window-2001, window-2011, window-passes, window-paged, windows-clear)
+
+-- what their number says of both
+module _ (starts : Starts) (n m w : ℕ) (hw : w ≡ windowRefusal starts n m) where
+  -- a number that isn't 0 is that of any list of checks that begins with them
+  windows-first : (rest : ℕ) → (w ≡ 0 → ⊥) → w ≡ pick (badWindows starts n m) 2001 (pick (overlap starts n m) 2011 rest)
+  unfolding windowRefusal
+  windows-first rest z = go (badWindows starts n m) (overlap starts n m) hw
+    where
+      go : (p q : Bool) → w ≡ pick p 2001 (pick q 2011 0) → w ≡ pick p 2001 (pick q 2011 rest)
+      go true q e = e
+      go false true e = e
+      go false false e = absurd (z e)
+
+  module _ (z : w ≡ 0) where
+    windows-good : (badWindows starts n m ≡ false) × (overlap starts n m ≡ false)
+    unfolding windowRefusal
+    windows-good = go (badWindows starts n m) (overlap starts n m) (sym z ∙ hw)
+      where
+        go : (p q : Bool) → 0 ≡ firstBad (check 2001 p ∷ check 2011 q ∷ []) → (p ≡ false) × (q ≡ false)
+        go true q e = absurd (let k : _≡_ {A = ℕ} 0 2001 = e in omega arith)
+        go false true e = absurd (let k : _≡_ {A = ℕ} 0 2011 = e in omega arith)
+        go false false e = (refl, refl)
 
 -- 2004 and 2006
 pub process-is : (p : ProcessId) (n : ℕ) → p ≡ Given n → leb 1048576 n ≡ badProcess p
@@ -75,40 +198,47 @@ unnamed-small true (Given n) e = cc
 unnamed-small false (Given n) e = cc
 
 -- a request's checks in order: `bN` is the flag of check N
-module _ (s : Settings) (len : ℕ) (q : DeviceRequest) (b1 : Bool) (h1 : b1 ≡ badWindow (s .start) len) where
-  pub refused-2001 : b1 ≡ true → 2001 ≡ requestRefusal s len q
+module _ (s : Settings) (n m : ℕ) (q : DeviceRequest) (w : ℕ) (hw : w ≡ windowRefusal (s .starts) n m) where
+  pub refused-windows : (w ≡ 0 → ⊥) → w ≡ requestRefusal s n m q
   unfolding requestRefusal
-  refused-2001 t = simp (← h1, t)
+  refused-windows z = windows-first (s .starts) n m w hw _ z
 
-  module _ (o1 : b1 ≡ false) (b2 : Bool) (h2 : b2 ≡ badDirectory (s .mode) (s .root)) where
-    pub refused-2002 : b2 ≡ true → 2002 ≡ requestRefusal s len q
+  module _ (z : w ≡ 0) (b2 : Bool) (h2 : b2 ≡ badDirectory (s .mode) (s .root)) where
+    pub refused-2002 : b2 ≡ true → 2002 ≡ requestRefusal s n m q
     unfolding requestRefusal
-    refused-2002 t = simp (← h1, o1, ← h2, t)
+    refused-2002 t = let good = windows-good (s .starts) n m w hw z in simp (good .0, good .1, ← h2, t)
 
     module _ (o2 : b2 ≡ false) (b3 : Bool) (h3 : b3 ≡ leb (2 ^ 24) (q .device)) where
-      pub refused-2003 : b3 ≡ true → 2003 ≡ requestRefusal s len q
+      pub refused-2003 : b3 ≡ true → 2003 ≡ requestRefusal s n m q
       unfolding requestRefusal
-      refused-2003 t = simp (← h1, o1, ← h2, o2, ← h3, t)
+      refused-2003 t = let good = windows-good (s .starts) n m w hw z in simp (good .0, good .1, ← h2, o2, ← h3, t)
 
       module _ (o3 : b3 ≡ false) where
         -- a process that is absent isn't one whose number is too large
-        pub refused-2005 : (b5 : Bool) → b5 ≡ (q .supervisor && absent (q .process)) → b5 ≡ true → 2005 ≡ requestRefusal s len q
+        pub refused-2005 : (b5 : Bool) → b5 ≡ (q .supervisor && absent (q .process)) → b5 ≡ true → 2005 ≡ requestRefusal s n m q
         unfolding requestRefusal
-        refused-2005 b5 h5 t = simp (← h1, o1, ← h2, o2, ← h3, o3, unnamed-small (q .supervisor) (q .process) (sym h5 ∙ t), ← h5, t)
+        refused-2005 b5 h5 t = let good = windows-good (s .starts) n m w hw z in simp (good .0, good .1, ← h2, o2, ← h3, o3, unnamed-small (q .supervisor) (q .process) (sym h5 ∙ t), ← h5, t)
 
         module _ (b4 : Bool) (h4 : b4 ≡ badProcess (q .process)) where
-          pub refused-2004 : b4 ≡ true → 2004 ≡ requestRefusal s len q
+          pub refused-2004 : b4 ≡ true → 2004 ≡ requestRefusal s n m q
           unfolding requestRefusal
-          refused-2004 t = simp (← h1, o1, ← h2, o2, ← h3, o3, ← h4, t)
+          refused-2004 t = let good = windows-good (s .starts) n m w hw z in simp (good .0, good .1, ← h2, o2, ← h3, o3, ← h4, t)
 
           module _ (o4 : b4 ≡ false) (b5 : Bool) (h5 : b5 ≡ (q .supervisor && absent (q .process))) (o5 : b5 ≡ false) (b6 : Bool) (h6 : b6 ≡ badLength (q .address) (q .length)) where
-            pub refused-2006 : b6 ≡ true → 2006 ≡ requestRefusal s len q
+            pub refused-2006 : b6 ≡ true → 2006 ≡ requestRefusal s n m q
             unfolding requestRefusal
-            refused-2006 t = simp (← h1, o1, ← h2, o2, ← h3, o3, ← h4, o4, ← h5, o5, ← h6, t)
+            refused-2006 t = let good = windows-good (s .starts) n m w hw z in simp (good .0, good .1, ← h2, o2, ← h3, o3, ← h4, o4, ← h5, o5, ← h6, t)
 
-            pub not-refused : b6 ≡ false → 0 ≡ requestRefusal s len q
+            pub not-refused : b6 ≡ false → 0 ≡ requestRefusal s n m q
             unfolding requestRefusal
-            not-refused o6 = simp (← h1, o1, ← h2, o2, ← h3, o3, ← h4, o4, ← h5, o5, ← h6, o6)
+            not-refused o6 = let good = windows-good (s .starts) n m w hw z in simp (good .0, good .1, ← h2, o2, ← h3, o3, ← h4, o4, ← h5, o5, ← h6, o6)
+
+module _ (s : Settings) (n m w : ℕ) (h : Whole (s .starts) n m w) (z : w ≡ 0) where
+  pub request-paged : Paged (s .starts) n m
+  request-paged = subst (Whole (s .starts) n m) z h .0
+
+  pub request-apart : overlap (s .starts) n m ≡ false
+  request-apart = subst (Whole (s .starts) n m) z h .1
 
 accepted : (s : Settings) (b : Bool) → b ≡ badDirectory (s .mode) (s .root) → b ≡ false → (s .mode < 5) × (s .root < 2 ^ 44)
 accepted s b h o = go (ltb 4 (s .mode)) (leb (2 ^ 44) (s .root)) refl refl (sym h ∙ o)
@@ -124,43 +254,66 @@ checked-mode s b h o = accepted s b h o .0
 pub checked-root : (s : Settings) (b : Bool) → b ≡ badDirectory (s .mode) (s .root) → b ≡ false → s .root < 2 ^ 44
 checked-root s b h o = accepted s b h o .1
 
-pub ruleset request-checks = (refused-2001, refused-2002, refused-2003, refused-2004, refused-2005, refused-2006, not-refused, checked-mode, checked-root)
+pub unaccepted : (s : Settings) (n m w : ℕ) → (w ≡ 0 → ⊥) → Accepted s n m w
+unaccepted s n m zero z = absurd (z refl)
+unaccepted s n m (suc w) z = tt
 
--- a take's checks in order
-module _ (start len file n : ℕ) (b : Bool) (h : b ≡ badWindow start len) where
-  pub take-2001 : b ≡ true → 2001 ≡ takeRefusal start len file n
+pub ruleset request-checks = (refused-windows, unaccepted, request-paged, request-apart, refused-2002, refused-2003, refused-2004, refused-2005, refused-2006, not-refused, checked-mode, checked-root)
+
+-- a take's and a report's checks in order
+module _ (starts : Starts) (n m file i w : ℕ) (hw : w ≡ windowRefusal starts n m) where
+  pub take-windows : (w ≡ 0 → ⊥) → w ≡ takeRefusal starts n m file i
   unfolding takeRefusal
-  take-2001 t = simp (← h, t)
+  take-windows z = windows-first starts n m w hw _ z
 
-  pub report-2001 : b ≡ true → 2001 ≡ reportRefusal start len file
+  pub report-windows : (w ≡ 0 → ⊥) → w ≡ reportRefusal starts n m file
   unfolding reportRefusal
-  report-2001 t = simp (← h, t)
+  report-windows z = windows-first starts n m w hw _ z
 
-  module _ (o : b ≡ false) (f : Bool) (hf : f ≡ isFile start len file) where
-    pub take-2008 : f ≡ false → 2008 ≡ takeRefusal start len file n
+  module _ (z : w ≡ 0) (f : Bool) (hf : f ≡ isLentFile starts n m file) where
+    pub take-2008 : f ≡ false → 2008 ≡ takeRefusal starts n m file i
     unfolding takeRefusal
-    take-2008 t = simp (← h, o, ← hf, t)
+    take-2008 t = let good = windows-good starts n m w hw z in simp (good .0, good .1, ← hf, t)
 
-    pub take-2009 : f ≡ true → 2047 < n → 2009 ≡ takeRefusal start len file n
+    pub take-2009 : f ≡ true → 2047 < i → 2009 ≡ takeRefusal starts n m file i
     unfolding takeRefusal
-    take-2009 t k = simp (← h, o, ← hf, t, lt-ltb 2047 n k)
+    take-2009 t k = let good = windows-good starts n m w hw z in simp (good .0, good .1, ← hf, t, lt-ltb 2047 i k)
 
-    pub take-passes : f ≡ true → n ≤ 2047 → 0 ≡ takeRefusal start len file n
+    pub take-passes : f ≡ true → i ≤ 2047 → 0 ≡ takeRefusal starts n m file i
     unfolding takeRefusal
-    take-passes t k = simp (← h, o, ← hf, t, le-ltb 2047 n k)
+    take-passes t k = let good = windows-good starts n m w hw z in simp (good .0, good .1, ← hf, t, le-ltb 2047 i k)
 
-    pub report-2008 : f ≡ false → 2008 ≡ reportRefusal start len file
+    pub report-2008 : f ≡ false → 2008 ≡ reportRefusal starts n m file
     unfolding reportRefusal
-    report-2008 t = simp (← h, o, ← hf, t)
+    report-2008 t = let good = windows-good starts n m w hw z in simp (good .0, good .1, ← hf, t)
 
-    pub report-passes : f ≡ true → 0 ≡ reportRefusal start len file
+    pub report-passes : f ≡ true → 0 ≡ reportRefusal starts n m file
     unfolding reportRefusal
-    report-passes t = simp (← h, o, ← hf, t)
+    report-passes t = let good = windows-good starts n m w hw z in simp (good .0, good .1, ← hf, t)
 
-pub is-a-file : (start len file : ℕ) (f : Bool) → f ≡ isFile start len file → f ≡ true → isFile start len file ≡ true
-is-a-file start len file f h t = sym h ∙ t
+pub is-a-file : (starts : Starts) (n m file : ℕ) (f : Bool) → f ≡ isLentFile starts n m file → f ≡ true → isLentFile starts n m file ≡ true
+is-a-file starts n m file f h t = sym h ∙ t
 
 pub is-identity : (n : ℕ) → n ≤ 2047 → n < 2048
 is-identity n h = omega arith
 
-pub ruleset file-checks = (take-2001, take-2008, take-2009, take-passes, report-2001, report-2008, report-passes, is-a-file, is-identity)
+-- a file in the first window, or else in the second
+module _ (starts : Starts) (n m file : ℕ) (a : Bool) (ha : a ≡ isFile (starts .first) n file) where
+  pub file-first : a ≡ true → true ≡ isLentFile starts n m file
+  file-first t = simp (← ha, t)
+
+  pub file-second : (b : Bool) → a ≡ false → b ≡ isFile (starts .second) m file → b ≡ isLentFile starts n m file
+  file-second b t hb = simp (← ha, t) hb
+
+pub ruleset lent-file-ways = (file-first, file-second)
+
+pub untakeable : (starts : Starts) (n m file i w : ℕ) → (w ≡ 0 → ⊥) → Takeable starts n m file i w
+untakeable starts n m file i zero z = absurd (z refl)
+untakeable starts n m file i (suc w) z = tt
+
+pub unreportable : (starts : Starts) (n m file w : ℕ) → (w ≡ 0 → ⊥) → Reportable starts n m file w
+unreportable starts n m file zero z = absurd (z refl)
+unreportable starts n m file (suc w) z = tt
+
+pub ruleset file-checks =
+    (untakeable, unreportable, take-windows, take-2008, take-2009, take-passes, report-windows, report-2008, report-passes, is-a-file, is-identity)

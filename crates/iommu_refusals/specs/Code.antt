@@ -1,19 +1,36 @@
--- Nothing here has to be believed: what a caller may rely on once no check refuses.
-use Prim.Native.Nat.{ℕ, zero, suc, _<_, _^_}
-use mathlib.Core.Bool.{true}
+-- Nothing here has to be believed: the windows' checks as the code makes them, and what a caller may rely on once no check refuses.
+use Prim.Native.Nat.{ℕ, zero, suc, _%_, _<_, _^_}
+use mathlib.Core.Bool.{Bool, true, false, not, _||_}
+use mathlib.Core.List.{[], _∷_}
 use mathlib.Core.Path.{_≡_}
-use Rattle.interrupt_file.specs.File.{isFile}
+use lib.Dec.{eqb}
+use Rattle.memory.specs.Choice.{firstBad}
+use Rattle.memory.specs.Code.{Paged}
+use Rattle.memory.specs.declared.Starts.{Starts}
 use Rattle.iommu_refusals.specs.declared.Settings.{Settings}
+use Rattle.iommu_refusals.specs.Refusals.{check, badWindows, overlap, isLentFile}
+
+abbrev pub offPages : Starts → ℕ → ℕ → Bool
+offPages starts n m =
+    ((not (eqb (starts .first % 4096) 0) || not (eqb (n % 4096) 0)) || not (eqb (starts .second % 4096) 0)) || not (eqb (m % 4096) 0)
+
+-- the two checks that all calls begin with
+unfoldable pub windowRefusal : Starts → ℕ → ℕ → ℕ
+windowRefusal starts n m = firstBad (check 2001 (badWindows starts n m) ∷ check 2011 (overlap starts n m) ∷ [])
 
 -- by the number of the refusal
-abbrev pub Accepted : Settings → ℕ → Type 0
-Accepted s zero = (s .mode < 5) × (s .root < 2 ^ 44)
-Accepted s (suc r) = Unit {0}
+abbrev pub Whole : Starts → ℕ → ℕ → ℕ → Type 0
+Whole starts n m zero = Paged starts n m × (overlap starts n m ≡ false)
+Whole starts n m (suc r) = Unit {0}
 
-abbrev pub Takeable : ℕ → ℕ → ℕ → ℕ → ℕ → Type 0
-Takeable start len file n zero = (isFile start len file ≡ true) × (n < 2048)
-Takeable start len file n (suc r) = Unit {0}
+abbrev pub Accepted : Settings → ℕ → ℕ → ℕ → Type 0
+Accepted s n m zero = (s .mode < 5) × (s .root < 2 ^ 44) × Paged (s .starts) n m × (overlap (s .starts) n m ≡ false)
+Accepted s n m (suc r) = Unit {0}
 
-abbrev pub Reportable : ℕ → ℕ → ℕ → ℕ → Type 0
-Reportable start len file zero = isFile start len file ≡ true
-Reportable start len file (suc r) = Unit {0}
+abbrev pub Takeable : Starts → ℕ → ℕ → ℕ → ℕ → ℕ → Type 0
+Takeable starts n m file i zero = (isLentFile starts n m file ≡ true) × (i < 2048)
+Takeable starts n m file i (suc r) = Unit {0}
+
+abbrev pub Reportable : Starts → ℕ → ℕ → ℕ → ℕ → Type 0
+Reportable starts n m file zero = isLentFile starts n m file ≡ true
+Reportable starts n m file (suc r) = Unit {0}

@@ -1,16 +1,17 @@
 // What a request, a take and a report ask, and the checks before any table is read.
 use causes::Access;
 use directory_process::ProcessId;
+use memory::Starts;
 ghost use mathlib.Core.Path.{_≡_};
 ghost use mathlib.Core.Bool.{_&&_};
-ghost use lib.Dec.{leb};
-ghost use Prim.Native.Nat.{_^_};
-ghost use Rattle.iommu_refusals.specs.Refusals.{badWindow, badDirectory, badProcess, absent, badLength, requestRefusal, takeRefusal, reportRefusal};
-ghost use Rattle.iommu_refusals.specs.Code.{Accepted, Takeable, Reportable};
+ghost use lib.Dec.{leb, ltb};
+ghost use Prim.Native.Nat.{_+_, _^_};
+ghost use Rattle.iommu_refusals.specs.Refusals.{badWindows, overlap, isLentFile, badDirectory, badProcess, absent, badLength, requestRefusal, takeRefusal, reportRefusal};
+ghost use Rattle.iommu_refusals.specs.Code.{offPages, windowRefusal, Whole, Accepted, Takeable, Reportable};
 
-// Where the window starts, and the device directory. The window's length is that of the lent bytes.
+// Where the two windows start, and the device directory. A window's length is that of its lent bytes.
 pub struct Settings {
-    pub start: u64,
+    pub starts: Starts,
     pub mode: u64,
     pub root: u64,
 }
@@ -28,17 +29,67 @@ pub struct DeviceRequest {
 // The number that no refusal has.
 const PASSED: u64 = 0;
 
-// 2001: the window's pages, all below 2^56.
-fn bad_window(start: u64, len: u64) -> bool
-    ensures { λ r. ⌜ r ≡ badWindow start len ⌝ }
+// A start or a length that is no multiple of 4,096: all four tests become one.
+fn off_pages(starts: Starts, n: u64, m: u64) -> bool
+    ensures { λ r. ⌜ r ≡ offPages starts n m ⌝ }
 {
-    if (start % 4096 != 0) | (len % 4096 != 0) {
-        return true;
-    }
+    (starts.first % 4096 != 0) | (n % 4096 != 0) | (starts.second % 4096 != 0) | (m % 4096 != 0)
+}
+
+// A window that ends above 2^56.
+fn too_high(start: u64, len: u64) -> bool
+    ensures { λ r. ⌜ r ≡ ltb (2 ^ 56) (start + len) ⌝ }
+{
     if 72057594037927936 < start {
         return true;
     }
     72057594037927936 - start < len
+}
+
+// 2001: whole pages, all below 2^56, in either window.
+fn bad_windows(starts: Starts, n: u64, m: u64) -> bool
+    ensures { λ r. ⌜ r ≡ badWindows starts n m ⌝ }
+{
+    if off_pages(starts, n, m) {
+        return true;
+    }
+    too_high(starts.first, n) | too_high(starts.second, m)
+}
+
+// 2011: the window that starts later starts in the other; an empty one overlaps nothing.
+fn overlapping(starts: Starts, n: u64, m: u64) -> bool
+    ensures { λ r. ⌜ r ≡ overlap starts n m ⌝ }
+{
+    if (n == 0) | (m == 0) {
+        return false;
+    }
+    if starts.first <= starts.second {
+        return starts.second - starts.first < n;
+    }
+    starts.first - starts.second < m
+}
+
+// The number of the first check that the windows fail, or 0.
+fn window_refusal(starts: Starts, n: u64, m: u64) -> u64
+    ensures { λ r. ⌜ (r ≡ windowRefusal starts n m) × Whole starts n m r ⌝ }
+{
+    if bad_windows(starts, n, m) {
+        return 2001;
+    }
+    if overlapping(starts, n, m) {
+        return 2011;
+    }
+    PASSED
+}
+
+// Whether an address is that of a file that lies in either window.
+fn is_lent_file(starts: Starts, n: u64, m: u64, file: u64) -> bool
+    ensures { λ r. ⌜ r ≡ isLentFile starts n m file ⌝ }
+{
+    if interrupt_file::is_file(starts.first, n, file) {
+        return true;
+    }
+    interrupt_file::is_file(starts.second, m, file)
 }
 
 // 2002: a directory mode that there is, and a root page below 2^56.
@@ -90,11 +141,12 @@ fn bad_length(address: u64, len: u64) -> bool
 }
 
 // The number of the first check that a request fails, or 0.
-pub fn request_refusal(s: Settings, len: u64, q: DeviceRequest) -> u64
-    ensures { λ r. ⌜ (r ≡ requestRefusal s len q) × Accepted s r ⌝ }
+pub fn request_refusal(s: Settings, n: u64, m: u64, q: DeviceRequest) -> u64
+    ensures { λ r. ⌜ (r ≡ requestRefusal s n m q) × Accepted s n m r ⌝ }
 {
-    if bad_window(s.start, len) {
-        return 2001;
+    let w = window_refusal(s.starts, n, m);
+    if w != PASSED {
+        return w;
     }
     if bad_directory(s.mode, s.root) {
         return 2002;
@@ -116,13 +168,14 @@ pub fn request_refusal(s: Settings, len: u64, q: DeviceRequest) -> u64
 }
 
 // The number of the first check that a take fails, or 0.
-pub fn take_refusal(start: u64, len: u64, file: u64, identity: u64) -> u64
-    ensures { λ r. ⌜ (r ≡ takeRefusal start len file identity) × Takeable start len file identity r ⌝ }
+pub fn take_refusal(starts: Starts, n: u64, m: u64, file: u64, identity: u64) -> u64
+    ensures { λ r. ⌜ (r ≡ takeRefusal starts n m file identity) × Takeable starts n m file identity r ⌝ }
 {
-    if bad_window(start, len) {
-        return 2001;
+    let w = window_refusal(starts, n, m);
+    if w != PASSED {
+        return w;
     }
-    if interrupt_file::is_file(start, len, file) {
+    if is_lent_file(starts, n, m, file) {
         if 2047 < identity {
             return 2009;
         }
@@ -132,13 +185,14 @@ pub fn take_refusal(start: u64, len: u64, file: u64, identity: u64) -> u64
 }
 
 // The number of the first check that a report fails, or 0.
-pub fn report_refusal(start: u64, len: u64, file: u64) -> u64
-    ensures { λ r. ⌜ (r ≡ reportRefusal start len file) × Reportable start len file r ⌝ }
+pub fn report_refusal(starts: Starts, n: u64, m: u64, file: u64) -> u64
+    ensures { λ r. ⌜ (r ≡ reportRefusal starts n m file) × Reportable starts n m file r ⌝ }
 {
-    if bad_window(start, len) {
-        return 2001;
+    let w = window_refusal(starts, n, m);
+    if w != PASSED {
+        return w;
     }
-    if interrupt_file::is_file(start, len, file) {
+    if is_lent_file(starts, n, m, file) {
         return PASSED;
     }
     2008

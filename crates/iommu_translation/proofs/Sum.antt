@@ -1,7 +1,7 @@
 -- What SUM changes (02, Req 02), with the tables and the request as they are. Assumes nothing.
 use Prim.Native.Nat.{ℕ}
 use mathlib.Core.Bool.{Bool, true, false, _||_}
-use mathlib.Core.Path.{_≡_, refl, ap, _∙_}
+use mathlib.Core.Path.{_≡_, refl, ap}
 use Rattle.memory.specs.Choice.{pick}
 use Rattle.memory.specs.declared.Load.{Load}
 use Rattle.memory.specs.Walk.{Walk, done, bind, run}

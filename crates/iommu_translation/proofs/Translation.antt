@@ -1,9 +1,16 @@
 -- The walk of a request, by the ways through each of its steps. Assumes nothing.
 use Prim.Native.Nat.{ℕ, _-_, _<_, _≤_, _^_}
 use mathlib.Core.Bool.{Bool, true, false, _||_}
+use mathlib.Core.List.{List}
 use mathlib.Core.Path.{_≡_, sym, ap, _∙_, subst}
 use borrow.Author.Tests.{lt-ltb, le-ltb, ne-eqb}
+use lib.ListN.{length}
+use Rattle.memory.specs.Choice.{pick}
 use Rattle.memory.specs.declared.Load.{Load}
+use Rattle.memory.specs.declared.Starts.{Starts}
+use Rattle.memory.specs.Window.{lent, memory}
+use Rattle.memory.specs.Code.{Paged, orderedStarts}
+use Rattle.memory.proofs.Order.{ordered-run, ordered-paged}
 use Rattle.memory.specs.Walk.{done, run}
 use Rattle.memory.proofs.Walks.{run-bind, then, at}
 use Rattle.causes.specs.Causes.{accessFault, faultAt, disallowed}
@@ -34,6 +41,8 @@ use Rattle.message.specs.Table.{messageOf}
 use Rattle.message.specs.declared.Message.{Message}
 use Rattle.iommu_refusals.specs.declared.Settings.{Settings}
 use Rattle.iommu_refusals.specs.declared.DeviceRequest.{DeviceRequest}
+use Rattle.iommu_refusals.specs.Refusals.{overlap}
+use Rattle.iommu_refusals.proofs.Overlap.{apart-words}
 use Rattle.iommu_translation.specs.declared.Outcome.{Outcome}
 use Rattle.iommu_translation.specs.declared.Outcome.the-variants.{Translated, Fault}
 use Rattle.iommu_translation.specs.Translate.{untranslated, onMessage, onSecond, isMessage, guestOf, onFirst, stagesOf, onInfo, onDevice, directoryOf, translateOf}
@@ -162,3 +171,18 @@ module _ (m : ℕ → Load) (s : Settings) (q : DeviceRequest) where
   mode-levels o h k e = e ∙ simp (ne-eqb (s .mode) 0 h, ne-eqb (s .mode) 1 k)
 
 pub ruleset mode-ways = (mode-off, mode-bare, mode-levels)
+
+-- the windows in another order
+module _ (s : Settings) (q : DeviceRequest) (xs ys : List ℕ) (b : Bool) (t : Starts) (us vs : List ℕ)
+    (ht : t ≡ orderedStarts b (s .starts)) (hu : us ≡ pick b ys xs) (hv : vs ≡ pick b xs ys) where
+  pub order-same : (r : Outcome) → overlap (s .starts) (length xs) (length ys) ≡ false
+      → r ≡ run (memory (lent t us vs)) (directoryOf (record { starts = t; mode = s .mode; root = s .root }) q)
+      → r ≡ run (memory (lent (s .starts) xs ys)) (directoryOf s q)
+  unfolding directoryOf
+  order-same r a e =
+      ordered-run (s .starts) xs ys b t us vs ht hu hv (directoryOf s q) (apart-words (s .starts) (length xs) (length ys) a) e
+
+  pub order-paged : Paged (s .starts) (length xs) (length ys) → Paged t (length us) (length vs)
+  order-paged p = ordered-paged (s .starts) xs ys b t us vs ht hu hv p
+
+pub ruleset order-ways = (order-same, order-paged)

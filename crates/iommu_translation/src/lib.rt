@@ -1,4 +1,4 @@
-// What the tables say of a request: 003's steps, over one lent window.
+// What the tables say of a request: 003's steps, over what is lent.
 use causes::Access;
 use causes::FaultInfo;
 use causes::Stage;
@@ -8,6 +8,7 @@ use directory_entry::Tree;
 use directory_process::PageTableInfo;
 use iommu_refusals::DeviceRequest;
 use iommu_refusals::Settings;
+use memory::Starts;
 use message::Destination;
 use message::Message;
 use paging::PageTable;
@@ -15,11 +16,15 @@ use paging_entry::Pages;
 use paging_entry::Purpose;
 use paging_entry::Translation;
 ghost use mathlib.Core.Path.{_≡_};
+ghost use mathlib.Core.Bool.{false};
 ghost use Prim.Native.Nat.{_<_, _^_};
-ghost use Rattle.memory.specs.Window.{memory};
+ghost use lib.ListN.{length};
+ghost use Rattle.memory.specs.Window.{lent, memory};
 ghost use Rattle.memory.specs.Walk.{run};
+ghost use Rattle.memory.specs.Code.{Paged};
 ghost use Rattle.paging_entry.specs.Entry.{pagesFor};
 ghost use Rattle.directory_context.specs.Code.{SoundContext};
+ghost use Rattle.iommu_refusals.specs.Refusals.{overlap};
 ghost use Rattle.iommu_translation.specs.Translate.{untranslated as untranslatedOf, onMessage, onSecond, isMessage, guestOf, stagesOf, onDevice, directoryOf, translateOf};
 
 // What the tables say of a request, before the store is looked at.
@@ -72,16 +77,23 @@ fn is_message(c: DecodedContext, a: u64) -> bool
 }
 
 // The guest address after the first stage: a message, or the second stage's.
-fn guest(c: DecodedContext, q: DeviceRequest, start: u64, window: &[u8], a: u64) -> Outcome
+fn guest<'a>(
+    c: DecodedContext,
+    q: DeviceRequest,
+    starts: Starts,
+    first: &'a [u8],
+    second: &'a [u8],
+    a: u64,
+) -> Outcome
     requires { ⌜ SoundContext c ⌝ }
-    ensures { λ r. ⌜ r ≡ run (memory start (now (window .entry))) (guestOf c (q .access) a) ⌝ }
+    ensures { λ r. ⌜ r ≡ run (memory (lent starts (now (first .entry)) (now (second .entry)))) (guestOf c (q .access) a) ⌝ }
 {
     let x = q.access;
     if is_message(c, a) {
-        return on_message(message::message_of(c.page, c.mask, x, start, window, a));
+        return on_message(message::message_of(c.page, c.mask, x, starts, first, second, a));
     }
     let g = c.second;
-    on_second(paging::second_stage(g, Purpose::SecondStage, x, start, window, a))
+    on_second(paging::second_stage(g, Purpose::SecondStage, x, starts, first, second, a))
 }
 
 // The first-stage pages that a request may use, with SUM.
@@ -93,65 +105,89 @@ fn pages_of(q: DeviceRequest, sum: bool) -> Pages
 }
 
 // Both stages, with the first stage's table and SUM.
-fn stages(
+fn stages<'a>(
     c: DecodedContext,
     q: DeviceRequest,
     f: PageTable,
     sum: bool,
-    start: u64,
-    window: &[u8],
+    starts: Starts,
+    first: &'a [u8],
+    second: &'a [u8],
 ) -> Outcome
     requires { ⌜ (f .root < 2 ^ 44) × SoundContext c ⌝ }
-    ensures { λ r. ⌜ r ≡ run (memory start (now (window .entry))) (stagesOf c q f sum) ⌝ }
+    ensures { λ r. ⌜ r ≡ run (memory (lent starts (now (first .entry)) (now (second .entry)))) (stagesOf c q f sum) ⌝ }
 {
     let x = q.access;
     let g = c.second;
     if f.on | g.on {
         let pages = pages_of(q, sum);
-        let t = paging::first_stage(f, g, x, pages, start, window, q.address);
+        let t = paging::first_stage(f, g, x, pages, starts, first, second, q.address);
         let Translation::To(a) = t else {
             return on_second(t);
         };
-        return guest(c, q, start, window, a);
+        return guest(c, q, starts, first, second, a);
     }
     untranslated(x, q.address)
 }
 
 // Steps 7 to 20, with the device context.
-fn with_context(c: DecodedContext, q: DeviceRequest, start: u64, window: &[u8]) -> Outcome
+fn with_context<'a>(
+    c: DecodedContext,
+    q: DeviceRequest,
+    starts: Starts,
+    first: &'a [u8],
+    second: &'a [u8],
+) -> Outcome
     requires { ⌜ SoundContext c ⌝ }
-    ensures { λ r. ⌜ r ≡ run (memory start (now (window .entry))) (onDevice q (DeviceFound.Context c)) ⌝ }
+    ensures { λ r. ⌜ r ≡ run (memory (lent starts (now (first .entry)) (now (second .entry)))) (onDevice q (DeviceFound.Context c)) ⌝ }
 {
     let p = q.process;
     let x = q.access;
-    let info = directory_process::first_table(c, p, q.supervisor, x, start, window);
+    let info = directory_process::first_table(c, p, q.supervisor, x, starts, first, second);
     let PageTableInfo::Use(f, sum) = info else {
         return Outcome::Fault(info.fault());
     };
-    stages(c, q, f, sum, start, window)
+    stages(c, q, f, sum, starts, first, second)
 }
 
-// Steps 5 to 20, with a directory.
-fn in_directory(s: Settings, q: DeviceRequest, window: &[u8]) -> Outcome
-    requires { ⌜ (1 < s .mode) × (s .mode < 5) × (s .root < 2 ^ 44) ⌝ }
-    ensures { λ r. ⌜ r ≡ run (memory (s .start) (now (window .entry))) (directoryOf s q) ⌝ }
+// Steps 5 to 20, with a directory, over the windows in an order.
+fn in_windows<'a>(s: Settings, q: DeviceRequest, first: &'a [u8], second: &'a [u8]) -> Outcome
+    requires { ⌜ (1 < s .mode) × (s .mode < 5) × (s .root < 2 ^ 44) × Paged (s .starts) (length (now first)) (length (now second)) ⌝ }
+    ensures { λ r. ⌜ r ≡ run (memory (lent (s .starts) (now (first .entry)) (now (second .entry)))) (directoryOf s q) ⌝ }
 {
     let levels = s.mode - 1;
     let d = q.device;
     if directory_entry::too_wide(Tree::Device, levels, d) {
         return Outcome::Fault(causes::disallowed());
     }
-    let found = directory_device::device_context(levels, s.root, d, s.start, window);
+    let found = directory_device::device_context(levels, s.root, d, s.starts, first, second);
     let DeviceFound::Context(c) = found else {
         return Outcome::Fault(found.fault());
     };
-    with_context(c, q, s.start, window)
+    with_context(c, q, s.starts, first, second)
+}
+
+// The same in the order in which the window that holds the directory's root comes first: where all tables lie in one window, one test finds each of them.
+fn in_directory<'a>(s: Settings, q: DeviceRequest, first: &'a [u8], second: &'a [u8]) -> Outcome
+    requires { ⌜ (1 < s .mode) × (s .mode < 5) × (s .root < 2 ^ 44) × Paged (s .starts) (length (now first)) (length (now second)) × (overlap (s .starts) (length (now first)) (length (now second)) ≡ false) ⌝ }
+    ensures { λ r. ⌜ r ≡ run (memory (lent (s .starts) (now (first .entry)) (now (second .entry)))) (directoryOf s q) ⌝ }
+{
+    let starts = s.starts;
+    let swap = memory::holds(starts.second, second.len() as u64, s.root * 4096, 8);
+    let near = memory::chosen(swap, first, second);
+    let far = memory::chosen(swap, second, first);
+    let t = Settings {
+        starts: memory::ordered(swap, starts),
+        mode: s.mode,
+        root: s.root,
+    };
+    in_windows(t, q, near, far)
 }
 
 // What the tables say of a request.
-pub fn translate(s: Settings, q: DeviceRequest, window: &[u8]) -> Outcome
-    requires { ⌜ (s .mode < 5) × (s .root < 2 ^ 44) ⌝ }
-    ensures { λ r. ⌜ r ≡ run (memory (s .start) (now (window .entry))) (translateOf s q) ⌝ }
+pub fn translate<'a>(s: Settings, q: DeviceRequest, first: &'a [u8], second: &'a [u8]) -> Outcome
+    requires { ⌜ (s .mode < 5) × (s .root < 2 ^ 44) × Paged (s .starts) (length (now first)) (length (now second)) × (overlap (s .starts) (length (now first)) (length (now second)) ≡ false) ⌝ }
+    ensures { λ r. ⌜ r ≡ run (memory (lent (s .starts) (now (first .entry)) (now (second .entry)))) (translateOf s q) ⌝ }
 {
     let x = q.access;
     if s.mode == 0 {
@@ -163,5 +199,5 @@ pub fn translate(s: Settings, q: DeviceRequest, window: &[u8]) -> Outcome
     if s.mode == 1 {
         return untranslated(x, q.address);
     }
-    in_directory(s, q, window)
+    in_directory(s, q, first, second)
 }

@@ -1,8 +1,9 @@
-// A small memory for the programs: a device directory of one level, files, and a message table, each a page.
+// A small memory for the programs, the first window: a device directory of one level, files, and a message table, each a page.
 use causes::Access;
 use directory_process::ProcessId;
 use iommu_refusals::DeviceRequest;
 use iommu_refusals::Settings;
+use memory::Starts;
 ghost use Prim.Native.Nat.{_≤_};
 
 // Puts a doubleword into the window, lowest byte first.
@@ -40,9 +41,18 @@ pub fn two_entries(first: u64, second: u64, first1: u64, second1: u64) -> [u8; 1
     both
 }
 
-pub fn settings() -> Settings {
+// Where that memory starts, and a second window.
+pub fn starts(second: u64) -> Starts {
+    Starts {
+        first: 0x40000000,
+        second: second,
+    }
+}
+
+pub fn settings(second: u64) -> Settings {
+    let at = starts(second);
     Settings {
-        start: 0x40000000,
+        starts: at,
         mode: 2,
         root: 0x40000,
     }

@@ -5,23 +5,24 @@ use mathlib.Core.List.{List, [], _∷_, _++_}
 use mathlib.Core.Bool.{Bool, true, false, _&&_}
 use native.Mathlib.Omega.{arith}
 use lib.Dec.{eqb}
-use lib.ListN.{length}
 use Rattle.memory.specs.Choice.{pick, unlessRefused}
 use Rattle.iommu_refusals.specs.declared.DeviceRequest.{DeviceRequest}
-use Rattle.iommu_refusals.specs.Refusals.{takeRefusal}
 use Rattle.iommu.specs.declared.Answer.{Answer}
 use Rattle.iommu.specs.declared.Answer.the-variants.{Translated, Redirected, Stored, Discarded, Fault, Refused, Taken}
 use Rattle.iommu.specs.declared.Numbers.{Numbers}
 use Rattle.iommu.specs.Answers.{numbersOf}
-use Rattle.iommu.specs.Request.{identityOf, requestOf}
-use Rattle.iommu.specs.Files.{takeOf}
-use Rattle.iommu.specs.Operations.{Lent, Op, request, take, settings, answerOf}
+use Rattle.iommu.specs.Request.{identityOf}
+use Rattle.iommu.specs.Files.{pendingAt, takeOf}
+use Rattle.iommu.specs.Operations.{Op, request, take, answerOf}
+use Rattle.memory.specs.Window.{Lent}
+use Rattle.ledger.specs.Places.{Side, Place}
+use Rattle.ledger.specs.Closes.{takeRefused}
 use Rattle.ledger.specs.Machine.{Asked, asks, asksNothing, Machine, callOf, history, AllGranted}
 use Rattle.ledger.specs.Ledger.{Event, store, successfulTake, nothing, opEvent, askedEvent, eventOf, Account, opened, entered, enteredAll, pendingIn, accountOf}
-use Rattle.ledger.specs.Sums.{total, among, Different, opStores, opTakes, askedWeight, addedUp}
-use Rattle.ledger.proofs.Answering.{stored-storing, stored-low, take-passed}
-use Rattle.ledger.proofs.Keeping.{Faith, Faithful}
-use Rattle.ledger.proofs.SumLaws.{total-add, total-cong, total-zero, one-hit}
+use Rattle.ledger.specs.Sums.{total, among, Different, Places, opStores, opTakes, askedWeight, addedUp}
+use Rattle.ledger.proofs.Answering.{starts, xs, ys, stored-storing, stored-low, storing-apart, take-passed}
+use Rattle.ledger.proofs.Keeping.{Faith, Faithful, Same, same-held, step-same}
+use Rattle.ledger.proofs.SumLaws.{total-add, total-cong, total-zero, one-hit, distinct}
 
 abbrev pub oneStore : Event → ℕ
 oneStore store = 1
@@ -63,14 +64,14 @@ module _ {C : Type 0} (event : C → Event) where
   tally-append w [] ys = omega arith
   tally-append w (x ∷ xs) ys = omega (arith, tally-append w xs ys)
 
-module _ {O : Type 0} (m : Machine O) (l : Lent) (ops : List O) (file n : ℕ) where
-  pub account-stores : accountOf m l ops file n .stores ≡ tally (eventOf m file n) oneStore (history m l ops)
+module _ {O : Type 0} (m : Machine O) (l : Lent) (ops : List O) (p : Place) (n : ℕ) where
+  pub account-stores : accountOf m l ops p n .stores ≡ tally (eventOf m (p .file) n) oneStore (history m l ops)
   unfolding accountOf
-  account-stores = omega (arith, all-stores (eventOf m file n) (opened (pendingIn l file n)) (history m l ops))
+  account-stores = omega (arith, all-stores (eventOf m (p .file) n) (opened (pendingIn l p n)) (history m l ops))
 
-  pub account-takes : accountOf m l ops file n .takes ≡ tally (eventOf m file n) oneTake (history m l ops)
+  pub account-takes : accountOf m l ops p n .takes ≡ tally (eventOf m (p .file) n) oneTake (history m l ops)
   unfolding accountOf
-  account-takes = omega (arith, all-takes (eventOf m file n) (opened (pendingIn l file n)) (history m l ops))
+  account-takes = omega (arith, all-takes (eventOf m (p .file) n) (opened (pendingIn l p n)) (history m l ops))
 
 -- one call: a request is no take, and a take no store
 store-weighs : (t : Bool) → oneStore (pick t store nothing) ≡ pick t 1 0
@@ -97,29 +98,37 @@ take-weighs true true false = refl
 take-weighs true false c = refl
 take-weighs false b c = refl
 
-module _ (fs : List ℕ) (d : Different fs) where
-  -- of one operation
-  module _ (l : Lent) where
-    request-stores : (mode root : ℕ) (q : DeviceRequest) (value : ℕ) (a : Answer) → requestOf (settings (l .start) mode root) (l .bytes) q value ≡ a
-        → total fs (λ f n. oneStore (opEvent f n (request mode root q value) (numbersOf a))) ≡ opStores (among fs) (request mode root q value) (numbersOf a)
-    request-stores mode root q value (Stored t) e =
-        total-cong fs _ _ (λ f n. store-weighs (eqb (t .file) f && eqb (identityOf q value) n))
-        ∙ one-hit fs (t .file) (identityOf q value) 1 d (stored-low l mode root q value t (stored-storing l mode root q value t e))
-    request-stores mode root q value (Translated a) e = total-zero fs
-    request-stores mode root q value (Redirected a) e = total-zero fs
-    request-stores mode root q value Discarded e = total-zero fs
-    request-stores mode root q value (Fault f) e = total-zero fs
-    request-stores mode root q value (Refused r) e = total-zero fs
-    request-stores mode root q value (Taken w) e = total-zero fs
+-- files of what is lent stay so
+places-after : (l k : Lent) → ((s : Side) → Same l k s) → (ps : List Place) → Places l ps → Places k ps
+places-after l k s [] w = tt
+places-after l k s (p ∷ ps) w = (same-held l k p (s (p .side)) (w .0), places-after l k s ps (w .1))
 
-    take-takes : (g i r : ℕ) → takeRefusal (l .start) (length (l .bytes)) g i ≡ r
-        → total fs (λ f n. oneTake (opEvent f n (take g i) (numbersOf (unlessRefused r Refused (Taken (pendingIn l g i))))))
-        ≡ opTakes (among fs) (take g i) (numbersOf (unlessRefused r Refused (Taken (pendingIn l g i))))
-    take-takes g i (suc r) e = total-zero fs
+module _ (ps : List Place) (d : Different ps) where
+  -- of one operation, where all are files of what is lent
+  module _ (l : Lent) (w : Places l ps) where
+    request-stores : (mode root : ℕ) (q : DeviceRequest) (value : ℕ) (a : Answer) → answerOf l (request mode root q value) ≡ a
+        → total ps (λ p n. oneStore (opEvent (p .file) n (request mode root q value) (numbersOf a))) ≡ opStores (among ps) (request mode root q value) (numbersOf a)
+    request-stores mode root q value (Stored t) e =
+        let k = stored-storing l mode root q value t e in
+        total-cong ps _ _ (λ p n. store-weighs (eqb (t .file) (p .file) && eqb (identityOf q value) n))
+        ∙ one-hit ps (t .file) (identityOf q value) 1 (distinct l (storing-apart l mode root q value t k) ps w d) (stored-low l mode root q value t k)
+    request-stores mode root q value (Translated a) e = total-zero ps
+    request-stores mode root q value (Redirected a) e = total-zero ps
+    request-stores mode root q value Discarded e = total-zero ps
+    request-stores mode root q value (Fault f) e = total-zero ps
+    request-stores mode root q value (Refused r) e = total-zero ps
+    request-stores mode root q value (Taken v) e = total-zero ps
+
+    take-takes : (g i r : ℕ) → takeRefused l g i ≡ r
+        → total ps (λ p n. oneTake (opEvent (p .file) n (take g i) (numbersOf (unlessRefused r Refused (Taken (pendingAt (starts l) (xs l) (ys l) g i))))))
+        ≡ opTakes (among ps) (take g i) (numbersOf (unlessRefused r Refused (Taken (pendingAt (starts l) (xs l) (ys l) g i))))
+    take-takes g i (suc r) e = total-zero ps
     take-takes g i zero e =
-        total-cong fs _ _ (λ f n. take-weighs (eqb g f) (eqb i n) (eqb (pendingIn l g i) 1))
-        ∙ one-hit fs g i (pick (eqb (pendingIn l g i) 1) 1 0) d (take-passed (l .start) (length (l .bytes)) g i e .1)
-        ∙ swap (among fs g) (eqb (pendingIn l g i) 1)
+        let k = take-passed l g i e in
+        let v = pendingAt (starts l) (xs l) (ys l) g i in
+        total-cong ps _ _ (λ p n. take-weighs (eqb g (p .file)) (eqb i n) (eqb v 1))
+        ∙ one-hit ps g i (pick (eqb v 1) 1 0) (distinct l (k .0) ps w d) (k .2)
+        ∙ swap (among ps g) (eqb v 1)
       where
         swap : (a c : Bool) → _≡_ {A = ℕ} (pick a (pick c 1 0) 0) (pick (c && a) 1 0)
         swap true true = refl
@@ -127,47 +136,49 @@ module _ (fs : List ℕ) (d : Different fs) where
         swap false true = refl
         swap false false = refl
 
-    op-stores : (o : Op) → total fs (λ f n. oneStore (opEvent f n o (numbersOf (answerOf l o)))) ≡ opStores (among fs) o (numbersOf (answerOf l o))
+    op-stores : (o : Op) → total ps (λ p n. oneStore (opEvent (p .file) n o (numbersOf (answerOf l o)))) ≡ opStores (among ps) o (numbersOf (answerOf l o))
     op-stores (request mode root q value) = request-stores mode root q value _ refl
-    op-stores (take g i) = total-cong fs _ _ (λ f n. take-no-store f n g i (numbersOf (answerOf l (take g i)))) ∙ total-zero fs
+    op-stores (take g i) = total-cong ps _ _ (λ p n. take-no-store (p .file) n g i (numbersOf (answerOf l (take g i)))) ∙ total-zero ps
 
-    op-takes : (o : Op) → total fs (λ f n. oneTake (opEvent f n o (numbersOf (answerOf l o)))) ≡ opTakes (among fs) o (numbersOf (answerOf l o))
+    op-takes : (o : Op) → total ps (λ p n. oneTake (opEvent (p .file) n o (numbersOf (answerOf l o)))) ≡ opTakes (among ps) o (numbersOf (answerOf l o))
     unfolding takeOf
     op-takes (request mode root q value) =
-        total-cong fs _ _ (λ f n. request-no-take f n mode root q value (numbersOf (answerOf l (request mode root q value)))) ∙ total-zero fs
+        total-cong ps _ _ (λ p n. request-no-take (p .file) n mode root q value (numbersOf (answerOf l (request mode root q value)))) ∙ total-zero ps
     op-takes (take g i) = take-takes g i _ refl
 
     -- of one call
-    call-stores : (k : Asked) (a : Numbers) (after : Lent) → Faith k a after l → total fs (λ f n. oneStore (askedEvent f n k a)) ≡ askedWeight (opStores (among fs)) k a
+    call-stores : (k : Asked) (a : Numbers) (after : Lent) → Faith k a after l → total ps (λ p n. oneStore (askedEvent (p .file) n k a)) ≡ askedWeight (opStores (among ps)) k a
     call-stores (asks o) a after f = rw (f .0) (op-stores o)
-    call-stores asksNothing a after f = total-zero fs
+    call-stores asksNothing a after f = total-zero ps
 
-    call-takes : (k : Asked) (a : Numbers) (after : Lent) → Faith k a after l → total fs (λ f n. oneTake (askedEvent f n k a)) ≡ askedWeight (opTakes (among fs)) k a
+    call-takes : (k : Asked) (a : Numbers) (after : Lent) → Faith k a after l → total ps (λ p n. oneTake (askedEvent (p .file) n k a)) ≡ askedWeight (opTakes (among ps)) k a
     call-takes (asks o) a after f = rw (f .0) (op-takes o)
-    call-takes asksNothing a after f = total-zero fs
+    call-takes asksNothing a after f = total-zero ps
 
   -- of every call of a list
   module _ {O : Type 0} (m : Machine O) (faith : Faithful m) where
-    tally-stores : (l : Lent) (ops : List O) → AllGranted m l ops
-        → total fs (λ f n. tally (eventOf m f n) oneStore (history m l ops)) ≡ addedUp m (opStores (among fs)) (history m l ops)
+    tally-stores : (l : Lent) (ops : List O) → Places l ps → AllGranted m l ops
+        → total ps (λ p n. tally (eventOf m (p .file) n) oneStore (history m l ops)) ≡ addedUp m (opStores (among ps)) (history m l ops)
     unfolding history addedUp AllGranted
-    tally-stores l [] g = total-zero fs
-    tally-stores l (o ∷ os) g =
-        total-add fs (λ f n. oneStore (eventOf m f n (callOf m l o))) (λ f n. tally (eventOf m f n) oneStore (history m (m .after l o) os))
-        ∙ ap₂ _+_ (call-stores l (m .asked o) (m .answer l o) (m .after l o) (faith l o (g .0))) (tally-stores (m .after l o) os (g .1))
+    tally-stores l [] w g = total-zero ps
+    tally-stores l (o ∷ os) w g =
+        total-add ps (λ p n. oneStore (eventOf m (p .file) n (callOf m l o))) (λ p n. tally (eventOf m (p .file) n) oneStore (history m (m .after l o) os))
+        ∙ ap₂ _+_ (call-stores l w (m .asked o) (m .answer l o) (m .after l o) (faith l o (g .0)))
+        (tally-stores (m .after l o) os (places-after l (m .after l o) (step-same m faith l o (g .0)) ps w) (g .1))
 
-    tally-takes : (l : Lent) (ops : List O) → AllGranted m l ops
-        → total fs (λ f n. tally (eventOf m f n) oneTake (history m l ops)) ≡ addedUp m (opTakes (among fs)) (history m l ops)
+    tally-takes : (l : Lent) (ops : List O) → Places l ps → AllGranted m l ops
+        → total ps (λ p n. tally (eventOf m (p .file) n) oneTake (history m l ops)) ≡ addedUp m (opTakes (among ps)) (history m l ops)
     unfolding history addedUp AllGranted
-    tally-takes l [] g = total-zero fs
-    tally-takes l (o ∷ os) g =
-        total-add fs (λ f n. oneTake (eventOf m f n (callOf m l o))) (λ f n. tally (eventOf m f n) oneTake (history m (m .after l o) os))
-        ∙ ap₂ _+_ (call-takes l (m .asked o) (m .answer l o) (m .after l o) (faith l o (g .0))) (tally-takes (m .after l o) os (g .1))
+    tally-takes l [] w g = total-zero ps
+    tally-takes l (o ∷ os) w g =
+        total-add ps (λ p n. oneTake (eventOf m (p .file) n (callOf m l o))) (λ p n. tally (eventOf m (p .file) n) oneTake (history m (m .after l o) os))
+        ∙ ap₂ _+_ (call-takes l w (m .asked o) (m .answer l o) (m .after l o) (faith l o (g .0)))
+        (tally-takes (m .after l o) os (places-after l (m .after l o) (step-same m faith l o (g .0)) ps w) (g .1))
 
-    pub stores-counted : (l : Lent) (ops : List O) → AllGranted m l ops
-        → total fs (λ f n. accountOf m l ops f n .stores) ≡ addedUp m (opStores (among fs)) (history m l ops)
-    stores-counted l ops g = total-cong fs _ _ (λ f n. account-stores m l ops f n) ∙ tally-stores l ops g
+    pub stores-counted : (l : Lent) (ops : List O) → Places l ps → AllGranted m l ops
+        → total ps (λ p n. accountOf m l ops p n .stores) ≡ addedUp m (opStores (among ps)) (history m l ops)
+    stores-counted l ops w g = total-cong ps _ _ (λ p n. account-stores m l ops p n) ∙ tally-stores l ops w g
 
-    pub takes-counted : (l : Lent) (ops : List O) → AllGranted m l ops
-        → total fs (λ f n. accountOf m l ops f n .takes) ≡ addedUp m (opTakes (among fs)) (history m l ops)
-    takes-counted l ops g = total-cong fs _ _ (λ f n. account-takes m l ops f n) ∙ tally-takes l ops g
+    pub takes-counted : (l : Lent) (ops : List O) → Places l ps → AllGranted m l ops
+        → total ps (λ p n. accountOf m l ops p n .takes) ≡ addedUp m (opTakes (among ps)) (history m l ops)
+    takes-counted l ops w g = total-cong ps _ _ (λ p n. account-takes m l ops p n) ∙ tally-takes l ops w g

@@ -5,27 +5,33 @@ use mathlib.Core.Bool.{Bool, true, false, _&&_}
 use mathlib.Core.List.{List, [], _∷_}
 use native.Mathlib.Omega.{arith}
 use native.Mathlib.Decide.{ℕ-discrete}
-use borrow.Author.Tests.{eq-eqb, eqb-true, eqb-false}
-use lib.Dec.{eqb}
+use borrow.Author.Tests.{eq-eqb, ne-eqb, eqb-true, eqb-false, leb-true}
+use lib.Dec.{eqb, leb}
 use lib.ListN.{length, getD, set}
 use lib.Seq.{getD-set-other}
 use Rattle.memory.specs.Choice.{pick, unlessRefused}
+use Rattle.memory.specs.Window.{Window, Lent, lent, holds, byteAt}
+use Rattle.memory.proofs.Truth.{and-true}
 use Rattle.interrupt_file.specs.Bit.{bitAt, withoutBit}
 use Rattle.interrupt_file.specs.File.{isFile, placeOf, pendingOf, afterStore, afterTake}
+use Rattle.interrupt_file.proofs.Files.{file-at}
 use Rattle.interrupt_file.proofs.Pending.{length-after-store, length-after-take, pending-lt, pending-stored, pending-taken, pending-store-other, pending-take-other}
 use Rattle.iommu_refusals.specs.declared.DeviceRequest.{DeviceRequest}
 use Rattle.iommu.specs.declared.Answer.{Answer}
 use Rattle.iommu.specs.declared.Answer.the-variants.{Translated, Redirected, Stored, Discarded, Fault, Refused, Taken}
 use Rattle.iommu.specs.declared.Numbers.{Numbers}
 use Rattle.iommu.specs.Answers.{numbersOf}
-use Rattle.iommu_refusals.specs.Refusals.{takeRefusal}
-use Rattle.iommu.specs.Request.{identityOf, storedBy, requestOf, afterRequest}
-use Rattle.iommu.specs.Files.{takeOf, afterTakeOf}
-use Rattle.iommu.specs.Operations.{Lent, Op, request, take, settings, answerOf, bytesOf, afterOf}
+use Rattle.iommu_refusals.specs.Refusals.{isLentFile}
+use Rattle.iommu.specs.Request.{identityOf, storedBy, afterRequest}
+use Rattle.iommu.specs.Files.{changedAt, pendingAt, takenAt, takeOf, afterTakeOf}
+use Rattle.iommu.specs.Operations.{Op, request, take, answerOf, afterOf}
+use Rattle.ledger.specs.Places.{Side, firstWindow, secondWindow, windowOf, Place, place, liesIn, isPlace}
+use Rattle.ledger.specs.Closes.{takeRefused}
 use Rattle.ledger.specs.Machine.{Asked, asks, asksNothing, Machine, callOf, leftBy, AllGranted}
 use Rattle.ledger.specs.Ledger.{Event, store, successfulTake, nothing, opEvent, askedEvent, eventOf, pendingIn}
 use Rattle.ledger.proofs.Machine.{step, Told, Keeps, kept-by-all}
-use Rattle.ledger.proofs.Answering.{no-way, stored-storing, stored-low, take-passed}
+use Rattle.ledger.proofs.Answering.{no-way, starts, xs, ys, Apart, stored-storing, stored-low, storing-apart, take-passed}
+use Rattle.ledger.proofs.Sides.{true-false, side-changed, side-pending}
 
 -- a machine whose calls answer and leave what the routines do for the operations that they ask; a call that asks none is refused, and leaves all
 abbrev pub Faith : Asked → Numbers → Lent → Lent → Type 0
@@ -47,10 +53,6 @@ module _ (start : ℕ) (bytes : List ℕ) (file n : ℕ) (hf : isFile start (len
       go true false p q = pending-store-other start bytes f i h l file n hf ln (λ x y. eqb-false i n q (sym y))
       go false b p q = pending-store-other start bytes f i h l file n hf ln (λ x y. eqb-false f file p (sym x))
 
-  store-told : (t : Bool) → Told (pendingOf start bytes file n) (pick t store nothing)
-  store-told true = tt
-  store-told false = tt
-
   -- a take of f i
   module _ (f i : ℕ) (h : isFile start (length bytes) f ≡ true) (l : i < 2048) where
     abbrev takes : Bool → Event
@@ -69,85 +71,157 @@ module _ (start : ℕ) (bytes : List ℕ) (file n : ℕ) (hf : isFile start (len
     take-moves true false c p q r = (pending-take-other start bytes f i h l file n hf ln (λ x y. eqb-false i n q (sym y)), tt)
     take-moves false b c p q r = (pending-take-other start bytes f i h l file n hf ln (λ x y. eqb-false f file p (sym x)), tt)
 
--- every operation keeps the length
-op-length : (l : Lent) (o : Op) → length (bytesOf l o) ≡ length (l .bytes)
-unfolding afterRequest afterTakeOf
-op-length l (request mode root q value) = go (requestOf (settings (l .start) mode root) (l .bytes) q value)
-  where
-    go : (a : Answer) → length (storedBy (l .start) (l .bytes) q value a) ≡ length (l .bytes)
-    go (Stored d) = length-after-store (l .start) (l .bytes) (d .file) (identityOf q value)
-    go (Translated a) = refl
-    go (Redirected a) = refl
-    go Discarded = refl
-    go (Fault f) = refl
-    go (Refused r) = refl
-    go (Taken w) = refl
-op-length l (take f i) = go (takeRefusal (l .start) (length (l .bytes)) f i)
-  where
-    go : (r : ℕ) → length (unlessRefused r (λ k. l .bytes) (afterTake (l .start) (l .bytes) f i)) ≡ length (l .bytes)
-    go zero = length-after-take (l .start) (l .bytes) f i
-    go (suc r) = refl
+-- a store to f i, and a take of it, in a window that may hold f or not
+module _ (w : Window) (file n : ℕ) (hf : liesIn w file ≡ true) (ln : n < 2048) (f i : ℕ) (l : i < 2048) where
+  abbrev bit : ℕ
+  bit = pendingOf (w .start) (w .bytes) file n
+
+  -- where it doesn't, f is another file
+  other-file : liesIn w f ≡ false → eqb f file ≡ false
+  other-file h = ne-eqb f file (λ e. true-false (sym (subst (λ (x : ℕ). liesIn w x ≡ true) (sym e) hf) ∙ h))
+
+  store-side : (t : Bool) → liesIn w f ≡ t
+      → pendingOf (w .start) (pick t (afterStore (w .start) (w .bytes) f i) (w .bytes)) file n ≡ step bit (pick (eqb f file && eqb i n) store nothing)
+  store-side true h = store-moves (w .start) (w .bytes) file n hf ln f i h l
+  store-side false h = rw (other-file h)
+
+  take-side : (v : ℕ) (t : Bool) → liesIn w f ≡ t → (liesIn w f ≡ true → v ≡ pendingOf (w .start) (w .bytes) f i)
+      → (pendingOf (w .start) (pick t (afterTake (w .start) (w .bytes) f i) (w .bytes)) file n ≡ step bit (pick (eqb f file && (eqb i n && eqb v 1)) successfulTake nothing))
+      × Told bit (pick (eqb f file && (eqb i n && eqb v 1)) successfulTake nothing)
+  take-side v true h e = rw (e h) (take-moves (w .start) (w .bytes) file n hf ln f i h l _ _ _ refl refl refl)
+  take-side v false h e = rw (other-file h) (refl, tt)
+
+-- the changes of a store and of a take
+abbrev stores : ℕ → ℕ → ℕ → List ℕ → List ℕ
+stores f i start bytes = afterStore start bytes f i
+
+abbrev clears : ℕ → ℕ → ℕ → List ℕ → List ℕ
+clears f i start bytes = afterTake start bytes f i
+
+-- every operation keeps each window's place and length
+length-pick : (t : Bool) (u v : List ℕ) → length u ≡ length v → length (pick t u v) ≡ length v
+length-pick true u v e = e
+length-pick false u v e = refl
+
+length-pick-other : (t : Bool) (u v : List ℕ) → length v ≡ length u → length (pick t u v) ≡ length u
+length-pick-other true u v e = refl
+length-pick-other false u v e = e
 
 -- windows of one place and one length
-pub record Same (l k : Lent) : Type 0 where
-  pub place : k .start ≡ l .start
-  pub long : length (k .bytes) ≡ length (l .bytes)
+pub record Same (l k : Lent) (s : Side) : Type 0 where
+  pub place : windowOf k s .start ≡ windowOf l s .start
+  pub long : length (windowOf k s .bytes) ≡ length (windowOf l s .bytes)
 
-pub same-own : (l : Lent) → Same l l
-same-own l = record { place = refl; long = refl }
+pub same-own : (l : Lent) (s : Side) → Same l l s
+same-own l s = record { place = refl; long = refl }
 
-same-next : (l k j : Lent) → Same l k → Same k j → Same l j
-same-next l k j p q = record { place = q .place ∙ p .place; long = q .long ∙ p .long }
+pub same-next : (l k j : Lent) (s : Side) → Same l k s → Same k j s → Same l j s
+same-next l k j s p q = record { place = q .place ∙ p .place; long = q .long ∙ p .long }
 
-call-same : (k : Asked) (a : Numbers) (l after : Lent) → Faith k a after l → Same l after
-call-same (asks o) a l after f = record { place = ap (λ (x : Lent). x .start) (f .1); long = ap (λ (x : Lent). length (x .bytes)) (f .1) ∙ op-length l o }
-call-same asksNothing a l after f = record { place = ap (λ (x : Lent). x .start) (f .1); long = ap (λ (x : Lent). length (x .bytes)) (f .1) }
+changed-same : (l : Lent) (f : ℕ) (change : ℕ → List ℕ → List ℕ) → ((start : ℕ) (bytes : List ℕ) → length (change start bytes) ≡ length bytes)
+    → (s : Side) → Same l (changedAt (starts l) (xs l) (ys l) f change) s
+changed-same l f change e firstWindow = record { place = refl; long = length-pick (liesIn (l .first) f) _ (xs l) (e (l .first .start) (xs l)) }
+changed-same l f change e secondWindow = record { place = refl; long = length-pick-other (liesIn (l .first) f) (ys l) _ (e (l .second .start) (ys l)) }
 
--- the file is one of the window
-abbrev pub Held : ℕ → Lent → Type 0
-Held file l = isFile (l .start) (length (l .bytes)) file ≡ true
+lent-own : (l : Lent) (s : Side) → Same l (lent (starts l) (xs l) (ys l)) s
+lent-own l firstWindow = record { place = refl; long = refl }
+lent-own l secondWindow = record { place = refl; long = refl }
 
-pub same-held : (l k : Lent) (file : ℕ) → Same l k → Held file l → Held file k
-same-held l k file s h =
-    subst (λ (x : ℕ). isFile (k .start) x file ≡ true) (sym (s .long)) (subst (λ (x : ℕ). isFile x (length (l .bytes)) file ≡ true) (sym (s .place)) h)
+op-same : (l : Lent) (o : Op) (s : Side) → Same l (afterOf l o) s
+unfolding afterRequest afterTakeOf
+op-same l (request mode root q value) s = go (answerOf l (request mode root q value))
+  where
+    go : (a : Answer) → Same l (storedBy (starts l) (xs l) (ys l) q value a) s
+    go (Stored d) = changed-same l (d .file) (stores (d .file) (identityOf q value)) (λ start bytes. length-after-store start bytes (d .file) (identityOf q value)) s
+    go (Translated a) = lent-own l s
+    go (Redirected a) = lent-own l s
+    go Discarded = lent-own l s
+    go (Fault f) = lent-own l s
+    go (Refused r) = lent-own l s
+    go (Taken w) = lent-own l s
+op-same l (take f i) s = go (takeRefused l f i)
+  where
+    go : (r : ℕ) → Same l (unlessRefused r (λ k. lent (starts l) (xs l) (ys l)) (takenAt (starts l) (xs l) (ys l) f i)) s
+    go zero = changed-same l f (clears f i) (λ start bytes. length-after-take start bytes f i) s
+    go (suc r) = lent-own l s
 
-module _ (file n : ℕ) (ln : n < 2048) (l : Lent) (h : Held file l) where
+call-same : (k : Asked) (a : Numbers) (l after : Lent) (s : Side) → Faith k a after l → Same l after s
+call-same (asks o) a l after s f = subst (λ (x : Lent). Same l x s) (sym (f .1)) (op-same l o s)
+call-same asksNothing a l after s f = subst (λ (x : Lent). Same l x s) (sym (f .1)) (same-own l s)
+
+-- the file is one of its window
+abbrev pub Held : Place → Lent → Type 0
+Held p l = isPlace l p ≡ true
+
+pub same-held : (l k : Lent) (p : Place) → Same l k (p .side) → Held p l → Held p k
+same-held l k p s h =
+    subst (λ (x : ℕ). isFile (windowOf k (p .side) .start) x (p .file) ≡ true) (sym (s .long))
+    (subst (λ (x : ℕ). isFile x (length (windowOf l (p .side) .bytes)) (p .file) ≡ true) (sym (s .place)) h)
+
+module _ (p : Place) (n : ℕ) (ln : n < 2048) (l : Lent) (h : Held p l) where
   abbrev b : ℕ
-  b = pendingIn l file n
+  b = pendingIn l p n
 
-  request-moves : (mode root : ℕ) (q : DeviceRequest) (value : ℕ) (a : Answer) → requestOf (settings (l .start) mode root) (l .bytes) q value ≡ a
-      → (pendingOf (l .start) (storedBy (l .start) (l .bytes) q value a) file n ≡ step b (opEvent file n (request mode root q value) (numbersOf a)))
-      × Told b (opEvent file n (request mode root q value) (numbersOf a))
+  abbrev w : Window
+  w = windowOf l (p .side)
+
+  -- a call that leaves all
+  own-moves : pendingIn (lent (starts l) (xs l) (ys l)) p n ≡ b
+  own-moves = go (p .side)
+    where
+      go : (s : Side) → pendingIn (lent (starts l) (xs l) (ys l)) (place s (p .file)) n ≡ pendingIn l (place s (p .file)) n
+      go firstWindow = refl
+      go secondWindow = refl
+
+  changed-moves : (f : ℕ) (change : ℕ → List ℕ → List ℕ) → Apart l → isLentFile (starts l) (length (xs l)) (length (ys l)) f ≡ true
+      → pendingIn (changedAt (starts l) (xs l) (ys l) f change) p n ≡ pendingOf (w .start) (pick (liesIn w f) (change (w .start) (w .bytes)) (w .bytes)) (p .file) n
+  changed-moves f change a e =
+      ap (λ (x : ℕ). pendingOf x (windowOf (changedAt (starts l) (xs l) (ys l) f change) (p .side) .bytes) (p .file) n) (start-is (p .side))
+      ∙ ap (λ (x : List ℕ). pendingOf (w .start) x (p .file) n) (side-changed l f a e change (p .side))
+    where
+      start-is : (s : Side) → windowOf (changedAt (starts l) (xs l) (ys l) f change) s .start ≡ windowOf l s .start
+      start-is firstWindow = refl
+      start-is secondWindow = refl
+
+  store-told : (t : Bool) → Told b (pick t store nothing)
+  store-told true = tt
+  store-told false = tt
+
+  request-moves : (mode root : ℕ) (q : DeviceRequest) (value : ℕ) (a : Answer) → answerOf l (request mode root q value) ≡ a
+      → (pendingIn (storedBy (starts l) (xs l) (ys l) q value a) p n ≡ step b (opEvent (p .file) n (request mode root q value) (numbersOf a)))
+      × Told b (opEvent (p .file) n (request mode root q value) (numbersOf a))
   request-moves mode root q value (Stored d) e =
       let s = stored-storing l mode root q value d e in (
-        store-moves (l .start) (l .bytes) file n h ln (d .file) (identityOf q value) (s .within) (stored-low l mode root q value d s),
-        store-told (l .start) (l .bytes) file n h ln (eqb (d .file) file && eqb (identityOf q value) n),
+        changed-moves (d .file) (stores (d .file) (identityOf q value)) (storing-apart l mode root q value d s) (s .within)
+            ∙ store-side w (p .file) n h ln (d .file) (identityOf q value) (stored-low l mode root q value d s) _ refl,
+        store-told (eqb (d .file) (p .file) && eqb (identityOf q value) n),
       )
-  request-moves mode root q value (Translated a) e = (refl, tt)
-  request-moves mode root q value (Redirected a) e = (refl, tt)
-  request-moves mode root q value Discarded e = (refl, tt)
-  request-moves mode root q value (Fault f) e = (refl, tt)
-  request-moves mode root q value (Refused r) e = (refl, tt)
-  request-moves mode root q value (Taken w) e = (refl, tt)
+  request-moves mode root q value (Translated a) e = (own-moves, tt)
+  request-moves mode root q value (Redirected a) e = (own-moves, tt)
+  request-moves mode root q value Discarded e = (own-moves, tt)
+  request-moves mode root q value (Fault f) e = (own-moves, tt)
+  request-moves mode root q value (Refused r) e = (own-moves, tt)
+  request-moves mode root q value (Taken v) e = (own-moves, tt)
 
-  take-step : (f i r : ℕ) → takeRefusal (l .start) (length (l .bytes)) f i ≡ r
-      → (pendingOf (l .start) (unlessRefused r (λ k. l .bytes) (afterTake (l .start) (l .bytes) f i)) file n
-      ≡ step b (opEvent file n (take f i) (numbersOf (unlessRefused r Refused (Taken (pendingIn l f i))))))
-      × Told b (opEvent file n (take f i) (numbersOf (unlessRefused r Refused (Taken (pendingIn l f i)))))
+  take-step : (f i r : ℕ) → takeRefused l f i ≡ r
+      → (pendingIn (unlessRefused r (λ k. lent (starts l) (xs l) (ys l)) (takenAt (starts l) (xs l) (ys l) f i)) p n
+      ≡ step b (opEvent (p .file) n (take f i) (numbersOf (unlessRefused r Refused (Taken (pendingAt (starts l) (xs l) (ys l) f i))))))
+      × Told b (opEvent (p .file) n (take f i) (numbersOf (unlessRefused r Refused (Taken (pendingAt (starts l) (xs l) (ys l) f i)))))
   take-step f i zero e =
-      let p = take-passed (l .start) (length (l .bytes)) f i e in
-      take-moves (l .start) (l .bytes) file n h ln f i (p .0) (p .1) _ _ _ refl refl refl
-  take-step f i (suc r) e = (refl, tt)
+      let k = take-passed l f i e in
+      let t = take-side w (p .file) n h ln f i (k .2) (pendingAt (starts l) (xs l) (ys l) f i) _ refl (side-pending l f (k .0) (k .1) i (p .side)) in
+      (changed-moves f (clears f i) (k .0) (k .1) ∙ t .0, t .1)
+  take-step f i (suc r) e = (own-moves, tt)
 
-  op-moves : (o : Op) → (pendingIn (afterOf l o) file n ≡ step b (opEvent file n o (numbersOf (answerOf l o)))) × Told b (opEvent file n o (numbersOf (answerOf l o)))
+  op-moves : (o : Op) → (pendingIn (afterOf l o) p n ≡ step b (opEvent (p .file) n o (numbersOf (answerOf l o)))) × Told b (opEvent (p .file) n o (numbersOf (answerOf l o)))
   unfolding afterRequest takeOf afterTakeOf
   op-moves (request mode root q value) = request-moves mode root q value _ refl
   op-moves (take f i) = take-step f i _ refl
 
   call-moves : (k : Asked) (a : Numbers) (after : Lent) → Faith k a after l
-      → (pendingIn after file n ≡ step b (askedEvent file n k a)) × Told b (askedEvent file n k a)
+      → (pendingIn after p n ≡ step b (askedEvent (p .file) n k a)) × Told b (askedEvent (p .file) n k a)
   call-moves (asks o) a after f = rw (f .0, f .1) (op-moves o)
-  call-moves asksNothing a after f = (ap (λ (x : Lent). pendingIn x file n) (f .1), tt)
+  call-moves asksNothing a after f = (ap (λ (x : Lent). pendingIn x p n) (f .1), tt)
 
 -- ---- the bytes
 own-store : (x y : ℕ) → pick (eqb x x && eqb y y) store nothing ≡ nothing → ⊥
@@ -167,66 +241,110 @@ low-kept : (k v : ℕ) → bitAt k v ≡ 0 → withoutBit k v ≡ v
 unfolding withoutBit
 low-kept k v e = rw e (omega arith)
 
-module _ (l : Lent) (i : ℕ) where
-  -- the byte at i holds no pending bit for which there is an event
-  abbrev pub Quiet : (ℕ → ℕ → Event) → Type 0
-  Quiet event = (file n : ℕ) → Held file l → n < 2048 → i ≡ placeOf file n - l .start → event file n ≡ nothing
+-- a byte of a window, where no pending bit that it holds has an event
+module _ (w : Window) (a : ℕ) (inw : holds w a 1 ≡ true) where
+  -- an index of the byte is that of its address
+  index-is : (f n : ℕ) → liesIn w f ≡ true → a - w .start ≡ placeOf f n - w .start → a ≡ placeOf f n
+  index-is f n h e =
+      let g = file-at h in
+      let lo = leb-true (w .start) a (and-true (leb (w .start) a) _ inw .0) in
+      omega (arith, g .after)
 
-  request-quiet : (mode root : ℕ) (q : DeviceRequest) (value : ℕ) (a : Answer) → requestOf (settings (l .start) mode root) (l .bytes) q value ≡ a
-      → Quiet (λ file n. opEvent file n (request mode root q value) (numbersOf a))
-      → getD (storedBy (l .start) (l .bytes) q value a) i 0 ≡ getD (l .bytes) i 0
+  store-quiet : (f n : ℕ) (t : Bool) → liesIn w f ≡ t → (liesIn w f ≡ true → a ≡ placeOf f n → ⊥)
+      → getD (pick t (afterStore (w .start) (w .bytes) f n) (w .bytes)) (a - w .start) 0 ≡ byteAt w a
   unfolding afterStore
-  request-quiet mode root q value (Stored d) e h =
-      let s = stored-storing l mode root q value d e in
-      getD-set-other (l .bytes) _ i _ 0 (λ k. own-store (d .file) (identityOf q value) (h (d .file) (identityOf q value) (s .within) (stored-low l mode root q value d s) k))
-  request-quiet mode root q value (Translated a) e h = refl
-  request-quiet mode root q value (Redirected a) e h = refl
-  request-quiet mode root q value Discarded e h = refl
-  request-quiet mode root q value (Fault f) e h = refl
-  request-quiet mode root q value (Refused r) e h = refl
-  request-quiet mode root q value (Taken w) e h = refl
+  store-quiet f n true h k = getD-set-other (w .bytes) _ (a - w .start) _ 0 (λ e. k h (index-is f n h e))
+  store-quiet f n false h k = refl
 
-  take-quiet : (f n r : ℕ) → takeRefusal (l .start) (length (l .bytes)) f n ≡ r
-      → Quiet (λ file m. opEvent file m (take f n) (numbersOf (unlessRefused r Refused (Taken (pendingIn l f n)))))
-      → getD (unlessRefused r (λ k. l .bytes) (afterTake (l .start) (l .bytes) f n)) i 0 ≡ getD (l .bytes) i 0
+  take-quiet : (f n : ℕ) (t : Bool) → liesIn w f ≡ t → (liesIn w f ≡ true → a ≡ placeOf f n → pendingOf (w .start) (w .bytes) f n ≡ 1 → ⊥)
+      → getD (pick t (afterTake (w .start) (w .bytes) f n) (w .bytes)) (a - w .start) 0 ≡ byteAt w a
   unfolding afterTake pendingOf
-  take-quiet f n (suc r) e h = refl
-  take-quiet f n zero e h = go (ℕ-discrete i (placeOf f n - l .start))
+  take-quiet f n false h k = refl
+  take-quiet f n true h k = go (ℕ-discrete (a - w .start) (placeOf f n - w .start))
     where
-      go : Dec (i ≡ placeOf f n - l .start)
-          → getD (set (l .bytes) (placeOf f n - l .start) (withoutBit (n % 8) (getD (l .bytes) (placeOf f n - l .start) 0))) i 0 ≡ getD (l .bytes) i 0
-      go (no d) = getD-set-other (l .bytes) _ i _ 0 d
-      go (yes k) =
-          let z : bitAt (n % 8) (getD (l .bytes) (placeOf f n - l .start) 0) ≡ 0 = at0 (ℕ-discrete (pendingIn l f n) 1) in
-          ap (λ (v : ℕ). getD (set (l .bytes) (placeOf f n - l .start) v) i 0) (low-kept (n % 8) (getD (l .bytes) (placeOf f n - l .start) 0) z) ∙ set-own (l .bytes) (placeOf f n - l .start) i
+      go : Dec (a - w .start ≡ placeOf f n - w .start)
+          → getD (set (w .bytes) (placeOf f n - w .start) (withoutBit (n % 8) (getD (w .bytes) (placeOf f n - w .start) 0))) (a - w .start) 0 ≡ byteAt w a
+      go (no d) = getD-set-other (w .bytes) _ (a - w .start) _ 0 d
+      go (yes e) =
+          let z : bitAt (n % 8) (getD (w .bytes) (placeOf f n - w .start) 0) ≡ 0 = at0 (ℕ-discrete (pendingOf (w .start) (w .bytes) f n) 1) in
+          ap (λ (v : ℕ). getD (set (w .bytes) (placeOf f n - w .start) v) (a - w .start) 0) (low-kept (n % 8) (getD (w .bytes) (placeOf f n - w .start) 0) z)
+          ∙ set-own (w .bytes) (placeOf f n - w .start) (a - w .start)
         where
-          at0 : Dec (pendingIn l f n ≡ 1) → pendingIn l f n ≡ 0
-          at0 (yes w) = let p = take-passed (l .start) (length (l .bytes)) f n e in absurd (own-take f n (pendingIn l f n) w (h f n (p .0) (p .1) k))
-          at0 (no w) = omega (arith, w, pending-lt (l .start) (l .bytes) f n)
+          at0 : Dec (pendingOf (w .start) (w .bytes) f n ≡ 1) → pendingOf (w .start) (w .bytes) f n ≡ 0
+          at0 (yes v) = absurd (k h (index-is f n h e) v)
+          at0 (no v) = omega (arith, v, pending-lt (w .start) (w .bytes) f n)
 
-  op-quiet : (o : Op) → Quiet (λ file n. opEvent file n o (numbersOf (answerOf l o))) → getD (bytesOf l o) i 0 ≡ getD (l .bytes) i 0
+-- the byte at a holds no pending bit for which there is an event
+abbrev pub Quiet : Lent → Side → ℕ → (ℕ → ℕ → Event) → Type 0
+Quiet l s a event = (file n : ℕ) → isPlace l (place s file) ≡ true → n < 2048 → a ≡ placeOf file n → event file n ≡ nothing
+
+module _ (l : Lent) (s : Side) (a : ℕ) (inw : holds (windowOf l s) a 1 ≡ true) where
+  own-byte : byteAt (windowOf (lent (starts l) (xs l) (ys l)) s) a ≡ byteAt (windowOf l s) a
+  own-byte = go s
+    where
+      go : (t : Side) → byteAt (windowOf (lent (starts l) (xs l) (ys l)) t) a ≡ byteAt (windowOf l t) a
+      go firstWindow = refl
+      go secondWindow = refl
+
+  changed-byte : (f : ℕ) (change : ℕ → List ℕ → List ℕ) → Apart l → isLentFile (starts l) (length (xs l)) (length (ys l)) f ≡ true
+      → byteAt (windowOf (changedAt (starts l) (xs l) (ys l) f change) s) a
+      ≡ getD (pick (liesIn (windowOf l s) f) (change (windowOf l s .start) (windowOf l s .bytes)) (windowOf l s .bytes)) (a - windowOf l s .start) 0
+  changed-byte f change p e =
+      ap (λ (x : ℕ). getD (windowOf (changedAt (starts l) (xs l) (ys l) f change) s .bytes) (a - x) 0) (start-is s)
+      ∙ ap (λ (x : List ℕ). getD x (a - windowOf l s .start) 0) (side-changed l f p e change s)
+    where
+      start-is : (t : Side) → windowOf (changedAt (starts l) (xs l) (ys l) f change) t .start ≡ windowOf l t .start
+      start-is firstWindow = refl
+      start-is secondWindow = refl
+
+  request-quiet : (mode root : ℕ) (q : DeviceRequest) (value : ℕ) (r : Answer) → answerOf l (request mode root q value) ≡ r
+      → Quiet l s a (λ file n. opEvent file n (request mode root q value) (numbersOf r))
+      → byteAt (windowOf (storedBy (starts l) (xs l) (ys l) q value r) s) a ≡ byteAt (windowOf l s) a
+  request-quiet mode root q value (Stored d) e h =
+      let k = stored-storing l mode root q value d e in
+      changed-byte (d .file) (stores (d .file) (identityOf q value)) (storing-apart l mode root q value d k) (k .within)
+      ∙ store-quiet (windowOf l s) a inw (d .file) (identityOf q value) _ refl
+      (λ t p. own-store (d .file) (identityOf q value) (h (d .file) (identityOf q value) t (stored-low l mode root q value d k) p))
+  request-quiet mode root q value (Translated v) e h = own-byte
+  request-quiet mode root q value (Redirected v) e h = own-byte
+  request-quiet mode root q value Discarded e h = own-byte
+  request-quiet mode root q value (Fault f) e h = own-byte
+  request-quiet mode root q value (Refused r) e h = own-byte
+  request-quiet mode root q value (Taken v) e h = own-byte
+
+  taken-quiet : (f n r : ℕ) → takeRefused l f n ≡ r
+      → Quiet l s a (λ file i. opEvent file i (take f n) (numbersOf (unlessRefused r Refused (Taken (pendingAt (starts l) (xs l) (ys l) f n)))))
+      → byteAt (windowOf (unlessRefused r (λ k. lent (starts l) (xs l) (ys l)) (takenAt (starts l) (xs l) (ys l) f n)) s) a ≡ byteAt (windowOf l s) a
+  taken-quiet f n (suc r) e h = own-byte
+  taken-quiet f n zero e h =
+      let k = take-passed l f n e in
+      changed-byte f (clears f n) (k .0) (k .1)
+      ∙ take-quiet (windowOf l s) a inw f n _ refl
+      (λ t p v. own-take f n (pendingAt (starts l) (xs l) (ys l) f n) (side-pending l f (k .0) (k .1) n s t ∙ v) (h f n t (k .2) p))
+
+  op-quiet : (o : Op) → Quiet l s a (λ file n. opEvent file n o (numbersOf (answerOf l o))) → byteAt (windowOf (afterOf l o) s) a ≡ byteAt (windowOf l s) a
   unfolding afterRequest takeOf afterTakeOf
   op-quiet (request mode root q value) h = request-quiet mode root q value _ refl h
-  op-quiet (take f n) h = take-quiet f n _ refl h
+  op-quiet (take f n) h = taken-quiet f n _ refl h
 
-  call-quiet : (k : Asked) (a : Numbers) (after : Lent) → Faith k a after l → Quiet (λ file n. askedEvent file n k a) → getD (after .bytes) i 0 ≡ getD (l .bytes) i 0
-  call-quiet (asks o) a after f h =
-      ap (λ (x : Lent). getD (x .bytes) i 0) (f .1)
-      ∙ op-quiet o (subst (λ (x : Numbers). Quiet (λ file n. opEvent file n o x)) (f .0) h)
-  call-quiet asksNothing a after f h = ap (λ (x : Lent). getD (x .bytes) i 0) (f .1)
+  call-quiet : (k : Asked) (c : Numbers) (after : Lent) → Faith k c after l → Quiet l s a (λ file n. askedEvent file n k c) → byteAt (windowOf after s) a ≡ byteAt (windowOf l s) a
+  call-quiet (asks o) c after f h =
+      ap (λ (x : Lent). byteAt (windowOf x s) a) (f .1) ∙ op-quiet o (subst (λ (x : Numbers). Quiet l s a (λ file n. opEvent file n o x)) (f .0) h)
+  call-quiet asksNothing c after f h = ap (λ (x : Lent). byteAt (windowOf x s) a) (f .1)
 
 -- ---- of a faithful machine
 module _ {O : Type 0} (m : Machine O) (faith : Faithful m) where
-  pub step-same : (l : Lent) (o : O) → m .Granted l o → Same l (m .after l o)
-  step-same l o g = call-same (m .asked o) (m .answer l o) l (m .after l o) (faith l o g)
+  pub step-same : (l : Lent) (o : O) → m .Granted l o → (s : Side) → Same l (m .after l o) s
+  step-same l o g s = call-same (m .asked o) (m .answer l o) l (m .after l o) s (faith l o g)
 
-  pub list-same : (l : Lent) (ops : List O) → AllGranted m l ops → Same l (leftBy m l ops)
-  list-same l ops g = kept-by-all m (Same l) (λ k o s p. same-next l k (m .after k o) s (step-same k o p)) l ops (same-own l) g
+  pub list-same : (l : Lent) (ops : List O) → AllGranted m l ops → (s : Side) → Same l (leftBy m l ops) s
+  list-same l ops g s = kept-by-all m (λ k. Same l k s) (λ k o t p. same-next l k (m .after k o) s t (step-same k o p s)) l ops (same-own l s) g
 
-  pub step-quiet : (l : Lent) (o : O) (i : ℕ) → m .Granted l o → Quiet l i (λ file n. eventOf m file n (callOf m l o)) → getD (m .after l o .bytes) i 0 ≡ getD (l .bytes) i 0
-  step-quiet l o i g h = call-quiet l i (m .asked o) (m .answer l o) (m .after l o) (faith l o g) h
+  pub step-quiet : (l : Lent) (o : O) (s : Side) (a : ℕ) → holds (windowOf l s) a 1 ≡ true → m .Granted l o → Quiet l s a (λ file n. eventOf m file n (callOf m l o))
+      → byteAt (windowOf (m .after l o) s) a ≡ byteAt (windowOf l s) a
+  step-quiet l o s a i g h = call-quiet l s a i (m .asked o) (m .answer l o) (m .after l o) (faith l o g) h
 
-  pub keeps : (file n : ℕ) → n < 2048 → (l : Lent) (o : O) → Held file l → m .Granted l o → Keeps m file n (Held file) l o
-  keeps file n ln l o h g =
-      let k = call-moves file n ln l h (m .asked o) (m .answer l o) (m .after l o) (faith l o g) in
-      record { inv = same-held l (m .after l o) file (step-same l o g) h; moves = k .0; told = k .1 }
+  pub keeps : (p : Place) (n : ℕ) → n < 2048 → (l : Lent) (o : O) → Held p l → m .Granted l o → Keeps m p n (Held p) l o
+  keeps p n ln l o h g =
+      let k = call-moves p n ln l h (m .asked o) (m .answer l o) (m .after l o) (faith l o g) in
+      record { inv = same-held l (m .after l o) p (step-same l o g (p .side)) h; moves = k .0; told = k .1 }

@@ -3,7 +3,8 @@ use Prim.Native.Nat.{ℕ, _+_}
 use mathlib.Core.Path.{_≡_, refl, sym, ap, subst, _∙_}
 use mathlib.Core.List.{List, [], _∷_, _++_}
 use native.Mathlib.Omega.{arith}
-use Rattle.iommu.specs.Operations.{Lent}
+use Rattle.memory.specs.Window.{Lent}
+use Rattle.ledger.specs.Places.{Place}
 use Rattle.ledger.specs.Machine.{Machine, Call, callOf, leftBy, history, AllGranted}
 use Rattle.ledger.specs.Ledger.{Event, store, successfulTake, nothing, eventOf, Account, opened, entered, enteredAll, pendingIn, accountOf}
 
@@ -67,43 +68,43 @@ module _ {O : Type 0} (m : Machine O) where
   kept-by-all Inv k l [] i g = i
   kept-by-all Inv k l (o ∷ os) i g = kept-by-all Inv k (m .after l o) os (k l o i (g .0)) (g .1)
 
-  module _ (file n : ℕ) (Inv : Lent → Type 0) where
+  module _ (p : Place) (n : ℕ) (Inv : Lent → Type 0) where
     abbrev event : Call O → Event
-    event c = eventOf m file n c
+    event c = eventOf m (p .file) n c
 
     -- what is to be shown of each call
     pub record Keeps (l : Lent) (o : O) : Type 0 where
       pub inv : Inv (m .after l o)
-      pub moves : pendingIn (m .after l o) file n ≡ step (pendingIn l file n) (event (callOf m l o))
-      pub told : Told (pendingIn l file n) (event (callOf m l o))
+      pub moves : pendingIn (m .after l o) p n ≡ step (pendingIn l p n) (event (callOf m l o))
+      pub told : Told (pendingIn l p n) (event (callOf m l o))
 
     -- what follows of every list of them, from where the bit goes with an account
     pub record Kept (b : ℕ) (a : Account) (l : Lent) (ops : List O) : Type 0 where
-      pub waits : pendingIn (leftBy m l ops) file n ≡ enteredAll event a (history m l ops) .mark
+      pub waits : pendingIn (leftBy m l ops) p n ≡ enteredAll event a (history m l ops) .mark
       pub balances : Balanced b (enteredAll event a (history m l ops))
 
     module _ (keeps : (l : Lent) (o : O) → Inv l → m .Granted l o → Keeps l o) where
-      kept-from : (b : ℕ) (a : Account) (l : Lent) (ops : List O) → Inv l → AllGranted m l ops → pendingIn l file n ≡ a .mark → Balanced b a → Kept b a l ops
+      kept-from : (b : ℕ) (a : Account) (l : Lent) (ops : List O) → Inv l → AllGranted m l ops → pendingIn l p n ≡ a .mark → Balanced b a → Kept b a l ops
       unfolding leftBy history enteredAll AllGranted
       kept-from b a l [] i g w h = record { waits = w; balances = h }
       kept-from b a l (o ∷ os) i g w h =
           let k = keeps l o i (g .0) in
           let e = event (callOf m l o) in
           let t : Told (a .mark) e = subst (λ (x : ℕ). Told x e) w (k .told) in
-          let v : pendingIn (m .after l o) file n ≡ entered a e .mark = k .moves ∙ ap (λ (x : ℕ). step x e) w ∙ sym (entered-mark a e) in
+          let v : pendingIn (m .after l o) p n ≡ entered a e .mark = k .moves ∙ ap (λ (x : ℕ). step x e) w ∙ sym (entered-mark a e) in
           let r = kept-from b (entered a e) (m .after l o) os (k .inv) (g .1) v (entered-balanced b a e t h) in
           record { waits = r .waits; balances = r .balances }
 
       -- the pending bit after the list is the mark, and the account balances
       module _ (l : Lent) (ops : List O) (i : Inv l) (g : AllGranted m l ops) where
-        kept : Kept (pendingIn l file n) (opened (pendingIn l file n)) l ops
-        kept = kept-from (pendingIn l file n) (opened (pendingIn l file n)) l ops i g refl (opened-balanced (pendingIn l file n))
+        kept : Kept (pendingIn l p n) (opened (pendingIn l p n)) l ops
+        kept = kept-from (pendingIn l p n) (opened (pendingIn l p n)) l ops i g refl (opened-balanced (pendingIn l p n))
 
-        pub mark-kept : pendingIn (leftBy m l ops) file n ≡ accountOf m l ops file n .mark
+        pub mark-kept : pendingIn (leftBy m l ops) p n ≡ accountOf m l ops p n .mark
         unfolding accountOf
         mark-kept = kept .waits
 
-        pub balance-kept : pendingIn l file n + accountOf m l ops file n .stores
-            ≡ accountOf m l ops file n .takes + accountOf m l ops file n .merged + pendingIn (leftBy m l ops) file n
+        pub balance-kept : pendingIn l p n + accountOf m l ops p n .stores
+            ≡ accountOf m l ops p n .takes + accountOf m l ops p n .merged + pendingIn (leftBy m l ops) p n
         unfolding accountOf
         balance-kept = omega (arith, kept .balances .sum, kept .waits)

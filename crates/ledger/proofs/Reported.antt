@@ -6,8 +6,9 @@ use native.Mathlib.Nat.{add-suc, add-zero, suc-mul, pow-suc, zero-mul}
 use native.Mathlib.Omega.{arith}
 use lib.Arith.{lt-one}
 use lib.Count.{ones, ones-step}
-use lib.ListN.{getD}
+use lib.ListN.{getD, take, drop}
 use Rattle.memory.specs.Window.{doubleword}
+use Rattle.memory.proofs.Loads.{part-word}
 use Rattle.interrupt_file.specs.Bit.{bitAt}
 use Rattle.interrupt_file.specs.File.{pendingOf}
 use Rattle.interrupt_file.specs.Report.{countOf}
@@ -45,6 +46,11 @@ ones-sum (suc k) v l =
     ones-step v ∙ ap (λ (x : ℕ). v % 2 + x) (ones-sum k (v / 2) h ∙ to-ext k _ _ (λ j p. sym (bit-suc j v)))
     ∙ ap (λ (x : ℕ). x + sumTo k (λ j. bitAt (suc j) v)) (sym (bit-zero v)) ∙ sym (to-front k (λ j. bitAt j v))
 
+count-sum : (bytes : List ℕ) (k : ℕ) → countOf bytes k ≡ sumTo k (λ i. ones (doubleword bytes (16 * i)))
+unfolding countOf sumTo
+count-sum bytes zero = refl
+count-sum bytes (suc k) = omega (arith, count-sum bytes k)
+
 module _ (bytes : List ℕ) (byte : (i : ℕ) → getD bytes i 0 < 256) where
   below : (b r k : ℕ) → b < 256 → r < k → b + 256 * r < 256 * k
   below b r k p q = omega arith
@@ -53,11 +59,6 @@ module _ (bytes : List ℕ) (byte : (i : ℕ) → getD bytes i 0 < 256) where
   doubleword-lt i =
       below _ _ (2 ^ 56) (byte i) (below _ _ (2 ^ 48) (byte (i + 1)) (below _ _ (2 ^ 40) (byte (i + 2)) (below _ _ (2 ^ 32) (byte (i + 3))
       (below _ _ (2 ^ 24) (byte (i + 4)) (below _ _ (2 ^ 16) (byte (i + 5)) (below _ _ (2 ^ 8) (byte (i + 6)) (byte (i + 7))))))))
-
-  count-sum : (at k : ℕ) → countOf bytes at k ≡ sumTo k (λ i. ones (doubleword bytes (at + 16 * i)))
-  unfolding countOf sumTo
-  count-sum at zero = refl
-  count-sum at (suc k) = omega (arith, count-sum at k)
 
   module _ (start file : ℕ) (s : start ≤ file) where
     bit-is : (i r : ℕ) → r < 64 → pendingOf start bytes file (i * 64 + r) ≡ bitAt r (doubleword bytes (file - start + 16 * i))
@@ -71,10 +72,11 @@ module _ (bytes : List ℕ) (byte : (i : ℕ) → getD bytes i 0 < 256) where
         low : (i r : ℕ) → r < 64 → (i * 64 + r) % 64 ≡ r
         low i r l = omega arith
 
-    -- "the number of pending ones, identity 0 included", of a window of bytes
-    pub pending-counted : ofFile (pendingOf start bytes file) ≡ countOf bytes (file - start) 32
+    -- "the number of pending ones, identity 0 included", of a file's own bytes
+    pub pending-counted : ofFile (pendingOf start bytes file) ≡ countOf (take 512 (drop (file - start) bytes)) 32
     unfolding ofFile
     pending-counted =
         to-split 32 64 (pendingOf start bytes file)
-        ∙ to-ext 32 _ _ (λ i p. to-ext 64 _ _ (λ r q. bit-is i r q) ∙ sym (ones-sum 64 _ (doubleword-lt (file - start + 16 * i))))
-        ∙ sym (count-sum (file - start) 32)
+        ∙ to-ext 32 _ _ (λ i p. to-ext 64 _ _ (λ r q. bit-is i r q) ∙ sym (ones-sum 64 _ (doubleword-lt (file - start + 16 * i)))
+        ∙ ap ones (sym (part-word bytes (file - start) 512 (16 * i) (omega arith))))
+        ∙ sym (count-sum (take 512 (drop (file - start) bytes)) 32)

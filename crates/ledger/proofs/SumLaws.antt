@@ -1,6 +1,6 @@
 -- Laws of the sums. Assumes nothing.
 use Prim.Native.Nat.{ℕ, zero, suc, _+_, _<_}
-use mathlib.Core.Path.{_≡_, refl, ap, ap₂, fun-ext}
+use mathlib.Core.Path.{_≡_, refl, ap, ap₂, fun-ext, subst}
 use mathlib.Core.List.{List, [], _∷_}
 use mathlib.Core.Bool.{Bool, true, false, _&&_, _||_}
 use native.Mathlib.Omega.{arith}
@@ -8,7 +8,11 @@ use native.Mathlib.Decide.{ℕ-discrete}
 use borrow.Author.Tests.{eqb-true, eq-eqb, ne-eqb}
 use lib.Dec.{eqb}
 use Rattle.memory.specs.Choice.{pick}
-use Rattle.ledger.specs.Sums.{sumTo, ofFile, total, among, Different, Files}
+use Rattle.memory.specs.Window.{Lent}
+use Rattle.ledger.specs.Places.{Side, firstWindow, secondWindow, windowOf, Place, sameSide, samePlace, liesIn, isPlace}
+use Rattle.ledger.specs.Sums.{sumTo, ofFile, total, listed, among, Different, Places}
+use Rattle.ledger.proofs.Answering.{Apart}
+use Rattle.ledger.proofs.Sides.{true-false, both-overlap}
 
 -- of the identities below k
 pub to-ext : (k : ℕ) (g h : ℕ → ℕ) → ((n : ℕ) → n < k → g n ≡ h n) → sumTo k g ≡ sumTo k h
@@ -59,33 +63,62 @@ one-file i x l true = file-one i x l
 one-file i x l false = file-zero
 
 -- of the files of a list
-pub total-add : (fs : List ℕ) (g h : ℕ → ℕ → ℕ) → total fs (λ f n. g f n + h f n) ≡ total fs g + total fs h
+pub total-add : (ps : List Place) (g h : Place → ℕ → ℕ) → total ps (λ p n. g p n + h p n) ≡ total ps g + total ps h
 unfolding total
 total-add [] g h = refl
-total-add (f ∷ fs) g h = omega (arith, file-add (g f) (h f), total-add fs g h)
+total-add (p ∷ ps) g h = omega (arith, file-add (g p) (h p), total-add ps g h)
 
-pub total-ext : (start len : ℕ) (fs : List ℕ) (g h : ℕ → ℕ → ℕ) → Files start len fs
-    → ((f n : ℕ) → Files start len (f ∷ []) → n < 2048 → g f n ≡ h f n) → total fs g ≡ total fs h
+pub total-ext : (l : Lent) (ps : List Place) (g h : Place → ℕ → ℕ) → Places l ps
+    → ((p : Place) (n : ℕ) → isPlace l p ≡ true → n < 2048 → g p n ≡ h p n) → total ps g ≡ total ps h
 unfolding total
-total-ext start len [] g h w e = refl
-total-ext start len (f ∷ fs) g h w e =
-    ap₂ _+_ (file-ext (g f) (h f) (λ n l. e f n (w .0, tt) l)) (total-ext start len fs g h (w .1) e)
+total-ext l [] g h w e = refl
+total-ext l (p ∷ ps) g h w e = ap₂ _+_ (file-ext (g p) (h p) (λ n k. e p n (w .0) k)) (total-ext l ps g h (w .1) e)
 
-pub total-cong : (fs : List ℕ) (g h : ℕ → ℕ → ℕ) → ((f n : ℕ) → g f n ≡ h f n) → total fs g ≡ total fs h
-total-cong fs g h e = ap (total fs) (fun-ext (λ f. fun-ext (λ n. e f n)))
+pub total-cong : (ps : List Place) (g h : Place → ℕ → ℕ) → ((p : Place) (n : ℕ) → g p n ≡ h p n) → total ps g ≡ total ps h
+total-cong ps g h e = ap (total ps) (fun-ext (λ p. fun-ext (λ n. e p n)))
 
-pub total-zero : (fs : List ℕ) → total fs (λ f n. 0) ≡ 0
+pub total-zero : (ps : List Place) → total ps (λ p n. 0) ≡ 0
 unfolding total
 total-zero [] = refl
-total-zero (f ∷ fs) = omega (arith, file-zero, total-zero fs)
+total-zero (p ∷ ps) = omega (arith, file-zero, total-zero ps)
 
--- where one identity of one file counts: different files count it once
-pub one-hit : (fs : List ℕ) (file i x : ℕ) → Different fs → i < 2048
-    → total fs (λ f n. pick (eqb file f && eqb i n) x 0) ≡ pick (among fs file) x 0
+-- files at different addresses
+abbrev pub Distinct : List Place → Type 0
+Distinct [] = Unit {0}
+Distinct (p ∷ ps) = (among ps (p .file) ≡ false) × Distinct ps
+
+-- where one identity of one file counts: files at different addresses count it once
+pub one-hit : (ps : List Place) (file i x : ℕ) → Distinct ps → i < 2048
+    → total ps (λ p n. pick (eqb file (p .file) && eqb i n) x 0) ≡ pick (among ps file) x 0
 unfolding total
 one-hit [] file i x d l = refl
-one-hit (f ∷ fs) file i x d l = rw (one-file i x l (eqb file f), one-hit fs file i x (d .1) l) (go (eqb file f) refl)
+one-hit (p ∷ ps) file i x d l = rw (one-file i x l (eqb file (p .file)), one-hit ps file i x (d .1) l) (go (eqb file (p .file)) refl)
   where
-    go : (t : Bool) → eqb file f ≡ t → pick t x 0 + pick (among fs file) x 0 ≡ pick (t || among fs file) x 0
-    go true e = rw (eqb-true file f e, d .0) (omega arith)
+    go : (t : Bool) → eqb file (p .file) ≡ t → pick t x 0 + pick (among ps file) x 0 ≡ pick (t || among ps file) x 0
+    go true e = rw (eqb-true file (p .file) e, d .0) (omega arith)
     go false e = omega arith
+
+-- different files of windows that are apart are at different addresses
+module _ (l : Lent) (apart : Apart l) where
+  not-both : (p q : Place) → isPlace l p ≡ true → isPlace l q ≡ true → samePlace p q ≡ false → p .file ≡ q .file → ⊥
+  not-both p q hp hq d e = go (p .side) (q .side) (subst (λ (f : ℕ). liesIn (windowOf l (p .side)) f ≡ true) e hp) hq (rw (eq-eqb (p .file) (q .file) e) at d)
+    where
+      go : (s t : Side) → liesIn (windowOf l s) (q .file) ≡ true → liesIn (windowOf l t) (q .file) ≡ true → (sameSide s t && true) ≡ false → ⊥
+      go firstWindow firstWindow a b z = true-false z
+      go firstWindow secondWindow a b z = both-overlap l (q .file) a b apart
+      go secondWindow firstWindow a b z = both-overlap l (q .file) b a apart
+      go secondWindow secondWindow a b z = true-false z
+
+  not-among : (p : Place) (qs : List Place) → isPlace l p ≡ true → Places l qs → listed qs p ≡ false → among qs (p .file) ≡ false
+  not-among p [] hp w d = refl
+  not-among p (q ∷ qs) hp w d = go (samePlace p q) (listed qs p) refl refl d (λ f. not-among p qs hp (w .1) f)
+    where
+      go : (a b : Bool) → samePlace p q ≡ a → listed qs p ≡ b → (a || b) ≡ false → (listed qs p ≡ false → among qs (p .file) ≡ false)
+          → (eqb (p .file) (q .file) || among qs (p .file)) ≡ false
+      go true b e f z ih = absurd (true-false z)
+      go false true e f z ih = absurd (true-false z)
+      go false false e f z ih = rw (ne-eqb (p .file) (q .file) (λ h. not-both p q hp (w .0) e h)) (ih f)
+
+  pub distinct : (ps : List Place) → Places l ps → Different ps → Distinct ps
+  distinct [] w d = tt
+  distinct (p ∷ ps) w d = (not-among p ps (w .0) (w .1) (d .0), distinct ps (w .1) (d .1))

@@ -1,14 +1,10 @@
 -- Wrong machines: the claim doesn't hold of them. Assumes nothing.
-use Prim.Native.Nat.{ℕ, _+_, _-_, _/_, _%_, _^_}
-use mathlib.Core.Path.{_≡_, refl, ap}
-use mathlib.Core.Bool.{false}
-use mathlib.Core.List.{List, [], _∷_, _++_}
+use Prim.Native.Nat.{ℕ, _-_}
+use mathlib.Core.Path.{refl, ap}
+use mathlib.Core.List.{[], _∷_}
 use native.Mathlib.Omega.{arith}
 use lib.Count.{onesIn, ones}
-use lib.ListN.{length, replicate}
-use Rattle.memory.specs.Window.{memory}
-use Rattle.causes.specs.declared.Access.the-variants.{Write}
-use Rattle.directory_process.specs.declared.ProcessId.the-variants.{Absent}
+use Rattle.memory.specs.Window.{windowAt, memory}
 use Rattle.paging_scheme.specs.Scheme.{legalOf, indexOf}
 use Rattle.paging_entry.specs.Entry.{entryOf, allows, mappedBy}
 use Rattle.paging_entry.specs.Entry.{onLoad}
@@ -24,27 +20,23 @@ use Rattle.message_recognition.specs.Recognition.{recognised, packed, extract}
 use Rattle.message.specs.Table.{translateReserved, recordReserved, onNotice, onTranslate, onMessageEntry, messageOf}
 use Rattle.interrupt_file.specs.Bit.{bitAt, withBit, withoutBit}
 use Rattle.interrupt_file.specs.File.{isFile, pendingOf, afterStore, afterTake}
-use Rattle.iommu.specs.declared.Numbers.{Numbers}
 use Rattle.iommu.specs.Answers.{numbersOf, numbers}
-use Rattle.iommu_refusals.specs.Refusals.{badWindow, requestRefusal, takeRefusal}
+use Rattle.iommu_refusals.specs.Refusals.{badWindow, overlap, requestRefusal, takeRefusal}
 use Rattle.iommu_translation.specs.Translate.{untranslated, isMessage, guestOf, stagesOf, directoryOf, translateOf}
 use Rattle.iommu.specs.Request.{storableAs, finish, requestOf, afterRequest}
 use Rattle.iommu.specs.Files.{takeOf, afterTakeOf}
-use Rattle.iommu.specs.Operations.{Lent, Op, request, take}
-use Rattle.ledger.specs.Machine.{Call, routines, leftBy, history}
-use Rattle.ledger.specs.Ledger.{Account, pendingIn, enteredAll, accountOf}
-use Rattle.ledger.specs.Closes.{Closes, Adds, accountAfter, pendingAfter, answerAt}
-use Rattle.ledger.proofs.Closing.{closes}
-use Rattle.ledger.proofs.Corollaries.{nothing-lost}
-use Rattle.ledger.proofs.Whole.{counted-all}
+use Rattle.iommu.specs.Operations.{Op, request, take}
+use Rattle.ledger.specs.Places.{firstWindow}
+use Rattle.ledger.specs.Machine.{leftBy, history}
+use Rattle.ledger.specs.Ledger.{enteredAll, accountOf}
+use Rattle.ledger.specs.Closes.{Closes}
 use Rattle.message.specs.declared.Destination.{Destination}
 use Rattle.iommu_translation.specs.declared.Outcome.{Outcome}
-use Rattle.iommu.specs.declared.Answer.the-variants.{Stored}
 use Rattle.iommu.specs.Operations.{answerOf, afterOf}
 use Rattle.ledger.specs.Machine.{Machine, asks}
-use Rattle.ledger.proofs.Instance.{lent, write}
+use Rattle.ledger.proofs.Instance.{memories, writeTo, write, far}
 use Rattle.ledger.proofs.Answering.{no-way}
-use lib.ListN.{set, getD}
+use lib.ListN.{set}
 
 -- it answers everything 6, and overwrites the first byte: that of the device's V and, in the file there, that of no identity's event
 abbrev pub overwriting : Machine Op
@@ -52,15 +44,15 @@ overwriting =
     record {
       asked = asks;
       answer = λ l o. numbers 6 0 0 0;
-      after = λ l o. record { start = l .start; bytes = set (l .bytes) 0 0 };
+      after = λ l o. record { first = windowAt (l .first .start) (set (l .first .bytes) 0 0); second = l .second };
       Granted = λ l o. Unit {0};
-      Counts = λ l ops file. Unit {0};
+      Counts = λ l ops p. Unit {0};
     }
 
-pub overwriting-breaks : Closes overwriting lent (write 2 0x40000 37 ∷ []) → ⊥
-unfolding lent write leftBy
+pub overwriting-breaks : Closes overwriting memories (write 2 0x40000 37 ∷ []) → ⊥
+unfolding memories writeTo write leftBy
 overwriting-breaks c =
-    no-way (c .changes [] (write 2 0x40000 37) ([], refl) .others 0 (λ file n h l e. refl))
+    no-way (c .changes [] (write 2 0x40000 37) firstWindow ([], refl) .others 0x40000000 refl (λ file n h l e. refl))
 
 -- it looks at one root, whatever root a request gives
 abbrev otherRoot : Op → Op
@@ -74,7 +66,7 @@ rootless =
       answer = λ l o. numbersOf (answerOf l (otherRoot o));
       after = λ l o. afterOf l (otherRoot o);
       Granted = λ l o. Unit {0};
-      Counts = λ l ops file. Unit {0};
+      Counts = λ l ops p. Unit {0};
     }
 
 abbrev there : Destination
@@ -86,8 +78,23 @@ isRecord (Outcome.Translated a) = 0
 isRecord (Outcome.Redirected a) = 0
 isRecord (Outcome.Fault f) = 0
 
-pub rootless-breaks : Closes rootless lent (write 2 0x40001 37 ∷ []) → ⊥
-unfolding onesIn ones memory legalOf indexOf entryOf allows mappedBy onLoad levelStep levels walkOf secondStageOf firstStageOf pointerOf leafPlace tooWide deviceMisconfigured deviceContextAt deviceContextOf processMisconfigured processContextAt processContextOf processTable firstTableOf recognised packed extract translateReserved recordReserved onNotice onTranslate onMessageEntry messageOf bitAt withBit withoutBit isFile pendingOf afterStore afterTake badWindow requestRefusal takeRefusal untranslated isMessage guestOf stagesOf directoryOf translateOf storableAs finish requestOf afterRequest takeOf afterTakeOf leftBy lent write isRecord
+pub rootless-breaks : Closes rootless memories (write 2 0x40001 37 ∷ []) → ⊥
+unfolding onesIn ones memory legalOf indexOf entryOf allows mappedBy onLoad levelStep levels walkOf secondStageOf firstStageOf pointerOf leafPlace tooWide deviceMisconfigured deviceContextAt deviceContextOf processMisconfigured processContextAt processContextOf processTable firstTableOf recognised packed extract translateReserved recordReserved onNotice onTranslate onMessageEntry messageOf bitAt withBit withoutBit isFile pendingOf afterStore afterTake badWindow overlap requestRefusal takeRefusal untranslated isMessage guestOf stagesOf directoryOf translateOf storableAs finish requestOf afterRequest takeOf afterTakeOf leftBy memories writeTo write isRecord
 rootless-breaks c =
     let s = c .stored [] (write 2 0x40001 37) 2 0x40001 _ 37 there ([], refl) refl .0 refl in
     no-way (ap isRecord (s .named))
+
+-- it stores and takes in the first window alone, and answers as the routines do
+abbrev pub firstOnly : Machine Op
+firstOnly =
+    record {
+      asked = asks;
+      answer = λ l o. numbersOf (answerOf l o);
+      after = λ l o. record { first = afterOf l o .first; second = l .second };
+      Granted = λ l o. Unit {0};
+      Counts = λ l ops p. Unit {0};
+    }
+
+pub firstOnly-breaks : Closes firstOnly memories (writeTo 0x80005000 2 0x40000 37 ∷ []) → ⊥
+unfolding onesIn ones memory legalOf indexOf entryOf allows mappedBy onLoad levelStep levels walkOf secondStageOf firstStageOf pointerOf leafPlace tooWide deviceMisconfigured deviceContextAt deviceContextOf processMisconfigured processContextAt processContextOf processTable firstTableOf recognised packed extract translateReserved recordReserved onNotice onTranslate onMessageEntry messageOf bitAt withBit withoutBit isFile pendingOf afterStore afterTake badWindow overlap requestRefusal takeRefusal untranslated isMessage guestOf stagesOf directoryOf translateOf storableAs finish requestOf afterRequest takeOf afterTakeOf leftBy memories writeTo write history enteredAll accountOf
+firstOnly-breaks c = no-way (c .marks far 37 (record { within = refl; counts = tt }) (omega arith) .0)

@@ -1,35 +1,40 @@
 -- Demand 3, "the ledger closes": one claim about any list of calls (01, "The ledger of demand 3").
-use Prim.Native.Nat.{ℕ, _+_, _-_, _<_}
+use Prim.Native.Nat.{ℕ, _+_, _<_}
 use mathlib.Core.Path.{_≡_}
 use mathlib.Core.Logic.{_↔_}
 use mathlib.Core.Bool.{true}
 use mathlib.Core.List.{List, [], _∷_, _++_}
 use lib.Dec.{eqb}
-use lib.ListN.{length, getD}
+use lib.ListN.{length}
 use Rattle.memory.specs.Choice.{pick}
-use Rattle.memory.specs.Window.{memory}
+use Rattle.memory.specs.Window.{Lent, holds, byteAt, memory}
 use Rattle.memory.specs.Walk.{run}
 use Rattle.message.specs.declared.Destination.{Destination}
-use Rattle.interrupt_file.specs.File.{isFile, placeOf}
+use Rattle.interrupt_file.specs.File.{placeOf}
 use Rattle.iommu_refusals.specs.declared.DeviceRequest.{DeviceRequest}
 use Rattle.iommu_translation.specs.declared.Outcome.the-variants.{Recorded}
 use Rattle.iommu.specs.declared.Answer.the-variants.{Stored, Refused, Taken}
 use Rattle.iommu.specs.declared.Numbers.{Numbers}
 use Rattle.iommu.specs.Answers.{numbersOf}
-use Rattle.iommu_refusals.specs.Refusals.{requestRefusal, takeRefusal}
+use Rattle.iommu_refusals.specs.Refusals.{isLentFile, requestRefusal, takeRefusal}
 use Rattle.iommu_translation.specs.Translate.{translateOf}
 use Rattle.iommu.specs.Request.{storable}
-use Rattle.iommu.specs.Operations.{Lent, Op, request, take, settings}
+use Rattle.iommu.specs.Operations.{request, take, startsOf, settings}
+use Rattle.ledger.specs.Places.{Side, windowOf, Place, place, isPlace}
 use Rattle.ledger.specs.Machine.{asks, Machine, Call, callOf, leftBy, history}
 use Rattle.ledger.specs.Ledger.{Account, store, nothing, eventOf, pendingIn, accountOf}
 use Rattle.ledger.specs.Sums.{total, among, Different, opStores, opTakes, addedUp}
 
 -- "the standards, read with this document, make it stored on the bytes before that call and no refusal stops it"; d is "the file that its entry names", and its notice
 pub record Storing (l : Lent) (mode root : ℕ) (q : DeviceRequest) (value : ℕ) (d : Destination) : Type 0 where
-  pub unrefused : requestRefusal (settings (l .start) mode root) (length (l .bytes)) q ≡ 0
-  pub named : run (memory (l .start) (l .bytes)) (translateOf (settings (l .start) mode root) q) ≡ Recorded d
+  pub unrefused : requestRefusal (settings l mode root) (length (l .first .bytes)) (length (l .second .bytes)) q ≡ 0
+  pub named : run (memory l) (translateOf (settings l mode root) q) ≡ Recorded d
   pub storing : storable q value ≡ true
-  pub within : isFile (l .start) (length (l .bytes)) (d .file) ≡ true
+  pub within : isLentFile (startsOf l) (length (l .first .bytes)) (length (l .second .bytes)) (d .file) ≡ true
+
+-- the number of the check that refuses a take, or 0
+abbrev pub takeRefused : Lent → ℕ → ℕ → ℕ
+takeRefused l file n = takeRefusal (startsOf l) (length (l .first .bytes)) (length (l .second .bytes)) file n
 
 -- "A notice is the second and third number of an answer 2"
 pub record Notice : Type 0 where
@@ -53,11 +58,11 @@ module _ {O : Type 0} (m : Machine O) (l : Lent) where
   abbrev pub left : List O → Lent
   left ops = leftBy m l ops
 
-  abbrev pub pendingAfter : List O → ℕ → ℕ → ℕ
-  pendingAfter ops file n = pendingIn (left ops) file n
+  abbrev pub pendingAfter : List O → Place → ℕ → ℕ
+  pendingAfter ops p n = pendingIn (left ops) p n
 
-  abbrev pub accountAfter : List O → ℕ → ℕ → Account
-  accountAfter ops file n = accountOf m l ops file n
+  abbrev pub accountAfter : List O → Place → ℕ → Account
+  accountAfter ops p n = accountOf m l ops p n
 
   -- a call that comes after those of `before`: its answer, itself as the ledger is fed it, and what it leaves
   abbrev pub answerAt : List O → O → Numbers
@@ -69,33 +74,33 @@ module _ {O : Type 0} (m : Machine O) (l : Lent) where
   abbrev pub afterAt : List O → O → Lent
   afterAt before o = m .after (left before) o
 
-  -- a file that is counted: one of the window, and what the machine asks of it
-  pub record Counted (ops : List O) (file : ℕ) : Type 0 where
-    pub within : isFile (l .start) (length (l .bytes)) file ≡ true
-    pub counts : m .Counts l ops file
+  -- a file that is counted: one of either window, and what the machine asks of it
+  pub record Counted (ops : List O) (p : Place) : Type 0 where
+    pub within : isPlace l p ≡ true
+    pub counts : m .Counts l ops p
 
-  abbrev pub AllCounted : List O → List ℕ → Type 0
+  abbrev pub AllCounted : List O → List Place → Type 0
   AllCounted ops [] = Unit {0}
-  AllCounted ops (f ∷ fs) = Counted ops f × AllCounted ops fs
+  AllCounted ops (p ∷ ps) = Counted ops p × AllCounted ops ps
 
   -- the sums of a list of files: stores add up to the stores of the history's calls, and takes to their successful takes
-  pub record Adds (ops : List O) (files : List ℕ) : Type 0 where
-    pub balance : total files (pendingIn l) + total files (λ f n. accountAfter ops f n .stores)
-        ≡ total files (λ f n. accountAfter ops f n .takes) + total files (λ f n. accountAfter ops f n .merged) + total files (pendingAfter ops)
-    pub stores : total files (λ f n. accountAfter ops f n .stores) ≡ addedUp m (opStores (among files)) (history m l ops)
-    pub takes : total files (λ f n. accountAfter ops f n .takes) ≡ addedUp m (opTakes (among files)) (history m l ops)
+  pub record Adds (ops : List O) (places : List Place) : Type 0 where
+    pub balance : total places (pendingIn l) + total places (λ p n. accountAfter ops p n .stores)
+        ≡ total places (λ p n. accountAfter ops p n .takes) + total places (λ p n. accountAfter ops p n .merged) + total places (pendingAfter ops)
+    pub stores : total places (λ p n. accountAfter ops p n .stores) ≡ addedUp m (opStores (among places)) (history m l ops)
+    pub takes : total places (λ p n. accountAfter ops p n .takes) ≡ addedUp m (opTakes (among places)) (history m l ops)
 
-  -- the byte at index i holds no pending bit for which a call is an event
-  abbrev pub Untouched : List O → O → ℕ → Type 0
-  Untouched before o i =
-      (file n : ℕ) → isFile (l .start) (length (l .bytes)) file ≡ true → n < 2048 → i ≡ placeOf file n - l .start
-      → eventOf m file n (callAt before o) ≡ nothing
+  -- the byte at an address of one window holds no pending bit for which a call is an event
+  abbrev pub Untouched : List O → O → Side → ℕ → Type 0
+  Untouched before o s a =
+      (file n : ℕ) → isPlace l (place s file) ≡ true → n < 2048 → a ≡ placeOf file n → eventOf m file n (callAt before o) ≡ nothing
 
-  -- what a call may change
-  pub record Changes (before : List O) (o : O) : Type 0 where
-    pub placed : afterAt before o .start ≡ l .start
-    pub long : length (afterAt before o .bytes) ≡ length (l .bytes)
-    pub others : (i : ℕ) → Untouched before o i → getD (afterAt before o .bytes) i 0 ≡ getD (left before .bytes) i 0
+  -- what a call may change, in each window
+  pub record Changes (before : List O) (o : O) (s : Side) : Type 0 where
+    pub placed : windowOf (afterAt before o) s .start ≡ windowOf l s .start
+    pub long : length (windowOf (afterAt before o) s .bytes) ≡ length (windowOf l s .bytes)
+    pub others : (a : ℕ) → holds (windowOf l s) a 1 ≡ true → Untouched before o s a
+        → byteAt (windowOf (afterAt before o) s) a ≡ byteAt (windowOf (left before) s) a
 
   -- THE CLAIM about a list of calls
   pub record Closes (ops : List O) : Type 0 where
@@ -104,30 +109,30 @@ module _ {O : Type 0} (m : Machine O) (l : Lent) where
         → (history m l ops ≡ history m l before ++ (callAt before o ∷ history m (afterAt before o) rest))
         × (left ops ≡ leftBy m (afterAt before o) rest)
     -- 1. for each file and identity: pending at the start + stores ≡ successful takes + merged stores + pending at the end
-    pub balance : (file n : ℕ) → Counted ops file → n < 2048
-        → pendingIn l file n + accountAfter ops file n .stores
-        ≡ accountAfter ops file n .takes + accountAfter ops file n .merged + pendingAfter ops file n
+    pub balance : (p : Place) (n : ℕ) → Counted ops p → n < 2048
+        → pendingIn l p n + accountAfter ops p n .stores
+        ≡ accountAfter ops p n .takes + accountAfter ops p n .merged + pendingAfter ops p n
     -- 2. "demand 3's sums hold with these counts; a sum over files adds up their 2,048 identities each"
-    pub sums : (files : List ℕ) → Different files → AllCounted ops files → Adds ops files
+    pub sums : (places : List Place) → Different places → AllCounted ops places → Adds ops places
     -- 3. "A request is answered 2, its first number the file that its entry names, exactly when the standards, read with this document, make it stored"; d is all three numbers
     pub stored : (before : List O) (o : O) (mode root : ℕ) (q : DeviceRequest) (value : ℕ) (d : Destination) → Comes ops before o
         → m .asked o ≡ asks (request mode root q value)
         → (answerAt before o ≡ numbersOf (Stored d)) ↔ Storing (left before) mode root q value d
     -- 4. "A take that isn't refused is answered 6, with 1 exactly when the mark is waiting, else with 0"
-    pub taken : (before : List O) (o : O) (file n : ℕ) → Comes ops before o → m .asked o ≡ asks (take file n) → takeRefusal (l .start) (length (l .bytes)) file n ≡ 0
-        → m .Counts l before file
-        → (answerAt before o ≡ numbersOf (Taken (accountAfter before file n .mark))) × (accountAfter before file n .mark < 2)
+    pub taken : (before : List O) (o : O) (p : Place) (n : ℕ) → Comes ops before o → m .asked o ≡ asks (take (p .file) n) → takeRefused l (p .file) n ≡ 0
+        → Counted before p
+        → (answerAt before o ≡ numbersOf (Taken (accountAfter before p n .mark))) × (accountAfter before p n .mark < 2)
     -- and it is refused exactly when a check refuses it, by the check's number
     pub refused : (before : List O) (o : O) (file n r : ℕ) → Comes ops before o → m .asked o ≡ asks (take file n)
-        → (answerAt before o ≡ numbersOf (Refused r)) ↔ ((takeRefusal (l .start) (length (l .bytes)) file n ≡ r) × (r ≡ 0 → ⊥))
+        → (answerAt before o ≡ numbersOf (Refused r)) ↔ ((takeRefused l file n ≡ r) × (r ≡ 0 → ⊥))
     -- 5. "After the list each pending bit is 1 exactly when its mark is waiting"; both are 0 or 1
-    pub marks : (file n : ℕ) → Counted ops file → n < 2048
-        → (pendingAfter ops file n ≡ accountAfter ops file n .mark) × (pendingAfter ops file n < 2)
+    pub marks : (p : Place) (n : ℕ) → Counted ops p → n < 2048
+        → (pendingAfter ops p n ≡ accountAfter ops p n .mark) × (pendingAfter ops p n < 2)
     -- 6. every store gives exactly one notice, as its entry gives it
     pub notices : (before : List O) (o : O) (d : Destination) → Comes ops before o → answerAt before o ≡ numbersOf (Stored d)
         → noticesOf (answerAt before o) ≡ noticeGiven d
     -- no other call gives one
     pub silent : (before : List O) (o : O) → Comes ops before o → ((file n : ℕ) → eventOf m file n (callAt before o) ≡ store → ⊥)
         → noticesOf (answerAt before o) ≡ []
-    -- 7. a call changes no byte but one with a pending bit for which it is an event, and neither the window's place nor its length
-    pub changes : (before : List O) (o : O) → Comes ops before o → Changes before o
+    -- 7. a call changes no byte of either window but one with a pending bit for which it is an event, and neither a window's place nor its length
+    pub changes : (before : List O) (o : O) (s : Side) → Comes ops before o → Changes before o s

@@ -1,4 +1,4 @@
--- The ledger, from history alone: the window's starting bytes, then each call's arguments and its answer (01, "The ledger of demand 3").
+-- The ledger, from history alone: the windows' starting bytes, then each call's arguments and its answer (01, "The ledger of demand 3").
 use Prim.Native.Nat.{ℕ, _+_}
 use mathlib.Core.Bool.{_&&_}
 use mathlib.Core.List.{List, [], _∷_}
@@ -7,7 +7,9 @@ use Rattle.memory.specs.Choice.{pick}
 use Rattle.interrupt_file.specs.File.{pendingOf}
 use Rattle.iommu.specs.declared.Numbers.{Numbers}
 use Rattle.iommu.specs.Request.{identityOf}
-use Rattle.iommu.specs.Operations.{Lent, Op, request, take}
+use Rattle.memory.specs.Window.{Lent}
+use Rattle.iommu.specs.Operations.{Op, request, take}
+use Rattle.ledger.specs.Places.{Place, windowOf}
 use Rattle.ledger.specs.Machine.{Asked, asks, asksNothing, Machine, Call, history}
 
 -- what a call is to one identity of one file: 01's "store" and "successful take"
@@ -51,10 +53,11 @@ unfoldable pub enteredAll : {C : Type 0} → (C → Event) → Account → List 
 enteredAll event a [] = a
 enteredAll event a (c ∷ cs) = enteredAll event (entered a (event c)) cs
 
-abbrev pub pendingIn : Lent → ℕ → ℕ → ℕ
-pendingIn l file n = pendingOf (l .start) (l .bytes) file n
+-- the pending bit of an identity of a file of one window
+abbrev pub pendingIn : Lent → Place → ℕ → ℕ
+pendingIn l p n = pendingOf (windowOf l (p .side) .start) (windowOf l (p .side) .bytes) (p .file) n
 
 -- the account of an identity of a file, from what is lent at the start and the history of a list
-unfoldable pub accountOf : {O : Type 0} → Machine O → Lent → List O → ℕ → ℕ → Account
+unfoldable pub accountOf : {O : Type 0} → Machine O → Lent → List O → Place → ℕ → Account
 unfolding enteredAll history
-accountOf m l ops file n = enteredAll (eventOf m file n) (opened (pendingIn l file n)) (history m l ops)
+accountOf m l ops p n = enteredAll (eventOf m (p .file) n) (opened (pendingIn l p n)) (history m l ops)

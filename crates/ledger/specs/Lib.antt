@@ -1,3 +1,4 @@
+pub mod Places
 pub mod Machine
 pub mod Ledger
 pub mod Sums

@@ -1,9 +1,10 @@
--- Machines of calls on what is lent, and lists of calls on one memory (01, "The ledger of demand 3": "Its requests and takes all give the same window start; directory mode and root may differ").
-use Prim.Native.Nat.{ℕ}
+-- Machines of calls on what is lent, and lists of calls on one memory (01, "The ledger of demand 3": "Its requests and takes all give the same window start; directory mode and root may differ"; 02: "both windows at fixed places").
 use mathlib.Core.List.{List, [], _∷_}
 use Rattle.iommu.specs.declared.Numbers.{Numbers}
 use Rattle.iommu.specs.Answers.{numbersOf}
-use Rattle.iommu.specs.Operations.{Lent, Op, answerOf, afterOf}
+use Rattle.memory.specs.Window.{Lent}
+use Rattle.iommu.specs.Operations.{Op, answerOf, afterOf}
+use Rattle.ledger.specs.Places.{Place}
 
 -- what a call asks: an operation, or none, as a C call whose access is no access
 pub data Asked : Type 0 where
@@ -16,7 +17,7 @@ pub record Machine (O : Type 0) : Type 1 where
   pub answer : Lent → O → Numbers
   pub after : Lent → O → Lent
   pub Granted : Lent → O → Type 0
-  pub Counts : Lent → List O → ℕ → Type 0
+  pub Counts : Lent → List O → Place → Type 0
 
 -- the shipped routines
 abbrev pub routines : Machine Op
@@ -26,7 +27,7 @@ routines =
       answer = λ l o. numbersOf (answerOf l o);
       after = afterOf;
       Granted = λ l o. Unit {0};
-      Counts = λ l ops file. Unit {0};
+      Counts = λ l ops p. Unit {0};
     }
 
 -- a call as its caller saw it

@@ -5,9 +5,10 @@ use mathlib.Core.Bool.{Bool, true, false, _&&_, _||_}
 use mathlib.Core.List.{List, [], _∷_}
 use lib.Dec.{eqb}
 use Rattle.memory.specs.Choice.{pick}
-use Rattle.interrupt_file.specs.File.{isFile}
+use Rattle.memory.specs.Window.{Lent}
 use Rattle.iommu.specs.declared.Numbers.{Numbers}
 use Rattle.iommu.specs.Operations.{Op, request, take}
+use Rattle.ledger.specs.Places.{Place, samePlace, isPlace}
 use Rattle.ledger.specs.Machine.{Asked, asks, asksNothing, Machine, Call}
 
 -- g 0 + .. + g (k - 1)
@@ -19,22 +20,27 @@ sumTo (suc k) g = g k + sumTo k g
 unfoldable pub ofFile : (ℕ → ℕ) → ℕ
 ofFile g = sumTo 2048 g
 
-unfoldable pub total : List ℕ → (ℕ → ℕ → ℕ) → ℕ
+unfoldable pub total : List Place → (Place → ℕ → ℕ) → ℕ
 total [] g = 0
-total (f ∷ fs) g = ofFile (g f) + total fs g
+total (p ∷ ps) g = ofFile (g p) + total ps g
 
--- whether a file is in a list; a list of different files; and one of files of the window
-abbrev pub among : List ℕ → ℕ → Bool
-among [] file = false
-among (f ∷ fs) file = eqb file f || among fs file
+-- whether a file of one window is in a list; a list of different ones; and whether a file's address is there
+abbrev pub listed : List Place → Place → Bool
+listed [] p = false
+listed (q ∷ qs) p = samePlace p q || listed qs p
 
-abbrev pub Different : List ℕ → Type 0
+abbrev pub Different : List Place → Type 0
 Different [] = Unit {0}
-Different (f ∷ fs) = (among fs f ≡ false) × Different fs
+Different (p ∷ ps) = (listed ps p ≡ false) × Different ps
 
-abbrev pub Files : ℕ → ℕ → List ℕ → Type 0
-Files start len [] = Unit {0}
-Files start len (f ∷ fs) = (isFile start len f ≡ true) × Files start len fs
+abbrev pub among : List Place → ℕ → Bool
+among [] file = false
+among (p ∷ ps) file = eqb file (p .file) || among ps file
+
+-- all are files of what is lent
+abbrev pub Places : Lent → List Place → Type 0
+Places l [] = Unit {0}
+Places l (p ∷ ps) = (isPlace l p ≡ true) × Places l ps
 
 -- how many stores a call is to some files: "A request answered 2 is a store: its file is the answer's first number"
 abbrev pub opStores : (ℕ → Bool) → Op → Numbers → ℕ

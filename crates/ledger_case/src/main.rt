@@ -1,8 +1,15 @@
-// A small list of calls, and the ledger that its history gives: what each call was answered, then a row for each interrupt it speaks of.
+// A small list of calls over two windows, and the ledger that its history gives: what each call was answered, then a row for each interrupt it speaks of.
 use causes::Access;
 use iommu::Answer;
 use libc::STDOUT_FILENO;
 ghost use Prim.Native.Nat.{_<_};
+
+// The tables and a file lie in the first window, another file in the second: where the latter starts, and the files.
+const SECOND: u64 = 0x50000000;
+
+const FAR: u64 = 0x50000200;
+
+const NEAR: u64 = 0x40001400;
 
 // What the ledger keeps for one identity of one file, and the pending bit that it started from.
 struct Account {
@@ -15,7 +22,7 @@ struct Account {
     takes: u64,
 }
 
-// The three interrupts that the list speaks of.
+// The three interrupts that the list speaks of: two of the file in the second window, one of that in the first.
 struct Ledger {
     low: Account,
     high: Account,
@@ -97,7 +104,8 @@ fn show(answer: Answer) {
 
 // A 4-byte write, entered in the ledger by its answer; `identity` is what its data value names.
 fn send(
-    window: &mut [u8],
+    first: &mut [u8; 12288],
+    second: &mut [u8; 4096],
     l: Ledger,
     address: u64,
     length: u64,
@@ -105,9 +113,9 @@ fn send(
     identity: u64,
 ) -> Ledger {
     io::write_all(STDOUT_FILENO, b"request");
-    let settings = layout::settings();
+    let settings = layout::settings(SECOND);
     let request = layout::ask(Access::Write, address, length);
-    let answer = iommu::request(settings, window, request, data);
+    let answer = iommu::request(settings, first, second, request, data);
     show(answer);
     let Answer::Stored(d) = answer else {
         return l;
@@ -119,9 +127,15 @@ fn send(
     }
 }
 
-fn take(window: &mut [u8], l: Ledger, file: u64, identity: u64) -> Ledger {
+fn take(
+    first: &mut [u8; 12288],
+    second: &mut [u8; 4096],
+    l: Ledger,
+    file: u64,
+    identity: u64,
+) -> Ledger {
     io::write_all(STDOUT_FILENO, b"take");
-    let answer = iommu::take(0x40000000, window, file, identity);
+    let answer = iommu::take(layout::starts(SECOND), first, second, file, identity);
     show(answer);
     let Answer::Taken(w) = answer else {
         return l;
@@ -137,8 +151,8 @@ fn take(window: &mut [u8], l: Ledger, file: u64, identity: u64) -> Ledger {
 }
 
 // The pending bit of an identity, as a report of its file has it.
-fn pending(window: &[u8], file: u64, identity: u64) -> u64 {
-    let r = iommu::report(0x40000000, window, file);
+fn pending<'a>(first: &'a [u8], second: &'a [u8], file: u64, identity: u64) -> u64 {
+    let r = iommu::report(layout::starts(SECOND), first, second, file);
     let pairs = r.pairs;
     if identity < 2048 {
         let k = (identity / 64) as usize;
@@ -149,7 +163,7 @@ fn pending(window: &[u8], file: u64, identity: u64) -> u64 {
 }
 
 // One row: file, identity, pending at the start, stores, successful takes, merged stores, pending at the end.
-fn row(window: &[u8], a: Account) {
+fn row<'a>(first: &'a [u8], second: &'a [u8], a: Account) {
     io::write_all(STDOUT_FILENO, b"ledger");
     value(a.file);
     value(a.identity);
@@ -157,18 +171,17 @@ fn row(window: &[u8], a: Account) {
     value(a.stores);
     value(a.takes);
     value(a.merged);
-    value(pending(window, a.file, a.identity));
+    value(pending(first, second, a.file, a.identity));
     io::write_all(STDOUT_FILENO, b"\n");
 }
 
-// pending at the start + stores, and takes + merged + pending at the end, over the rows; and the ones that reports of both files count.
-fn total(window: &[u8], l: Ledger) {
+// pending at the start + stores, and takes + merged + pending at the end, over the rows: pending are the ones that a report of the file in each window counts, the second window's first.
+fn total<'a>(first: &'a [u8], second: &'a [u8], l: Ledger) {
     let stores = plus(l.low.stores, plus(l.high.stores, l.other.stores));
     let takes = plus(l.low.takes, plus(l.high.takes, l.other.takes));
     let merged = plus(l.low.merged, plus(l.high.merged, l.other.merged));
-    let low = iommu::report(0x40000000, window, 0x40001200);
-    let other = iommu::report(0x40000000, window, 0x40001400);
-    let ones = plus(low.count, other.count);
+    let far = iommu::report(layout::starts(SECOND), first, second, FAR);
+    let near = iommu::report(layout::starts(SECOND), first, second, NEAR);
     io::write_all(STDOUT_FILENO, b"sum");
     value(stores);
     io::write_all(STDOUT_FILENO, b" =");
@@ -176,66 +189,69 @@ fn total(window: &[u8], l: Ledger) {
     io::write_all(STDOUT_FILENO, b" +");
     value(merged);
     io::write_all(STDOUT_FILENO, b" +");
-    value(ones);
+    value(far.count);
+    io::write_all(STDOUT_FILENO, b" +");
+    value(near.count);
     io::write_all(STDOUT_FILENO, b"\n");
 }
 
 // A store, the same again (merged), and a take.
-fn merging(window: &mut [u8], l0: Ledger) -> Ledger {
-    let l1 = send(window, l0, 0x80006000, 4, 37, 37);
-    let l2 = send(window, l1, 0x80006000, 4, 37, 37);
-    take(window, l2, 0x40001200, 37)
+fn merging(first: &mut [u8; 12288], second: &mut [u8; 4096], l0: Ledger) -> Ledger {
+    let l1 = send(first, second, l0, 0x80006000, 4, 37, 37);
+    let l2 = send(first, second, l1, 0x80006000, 4, 37, 37);
+    take(first, second, l2, FAR, 37)
 }
 
 // A take that finds nothing, a big-endian store, and a discard.
-fn failing(window: &mut [u8], l0: Ledger) -> Ledger {
-    let l1 = take(window, l0, 0x40001200, 37);
-    let l2 = send(window, l1, 0x80006004, 4, 4278648832, 2047);
-    send(window, l2, 0x80006000, 4, 2048, 2048)
+fn failing(first: &mut [u8; 12288], second: &mut [u8; 4096], l0: Ledger) -> Ledger {
+    let l1 = take(first, second, l0, FAR, 37);
+    let l2 = send(first, second, l1, 0x80006004, 4, 4278648832, 2047);
+    send(first, second, l2, 0x80006000, 4, 2048, 2048)
 }
 
-// A store to another file, a refused take and a refused request.
-fn refused(window: &mut [u8], l0: Ledger) -> Ledger {
-    let l1 = send(window, l0, 0x80005000, 4, 5, 5);
-    let l2 = take(window, l1, 0x40001201, 37);
-    send(window, l2, 0x80006000, 0, 37, 37)
+// A store to the file in the first window, a refused take and a refused request.
+fn refused(first: &mut [u8; 12288], second: &mut [u8; 4096], l0: Ledger) -> Ledger {
+    let l1 = send(first, second, l0, 0x80005000, 4, 5, 5);
+    let l2 = take(first, second, l1, FAR + 1, 37);
+    send(first, second, l2, 0x80006000, 0, 37, 37)
 }
 
 // A store that stays, and a take of no identity.
-fn ending(window: &mut [u8], l0: Ledger) -> Ledger {
-    let l1 = send(window, l0, 0x80006000, 4, 37, 37);
-    take(window, l1, 0x40001200, 2048)
+fn ending(first: &mut [u8; 12288], second: &mut [u8; 4096], l0: Ledger) -> Ledger {
+    let l1 = send(first, second, l0, 0x80006000, 4, 37, 37);
+    take(first, second, l1, FAR, 2048)
 }
 
-fn first_half(window: &mut [u8], l0: Ledger) -> Ledger {
-    let l1 = merging(window, l0);
-    failing(window, l1)
+fn first_half(first: &mut [u8; 12288], second: &mut [u8; 4096], l0: Ledger) -> Ledger {
+    let l1 = merging(first, second, l0);
+    failing(first, second, l1)
 }
 
-fn calls(window: &mut [u8], l0: Ledger) -> Ledger {
-    let l1 = first_half(window, l0);
-    let l2 = refused(window, l1);
-    ending(window, l2)
+fn calls(first: &mut [u8; 12288], second: &mut [u8; 4096], l0: Ledger) -> Ledger {
+    let l1 = first_half(first, second, l0);
+    let l2 = refused(first, second, l1);
+    ending(first, second, l2)
 }
 
-fn run(window: &mut [u8], opening: Ledger) {
-    let l = calls(window, opening);
+fn run(first: &mut [u8; 12288], second: &mut [u8; 4096], opening: Ledger) {
+    let l = calls(first, second, opening);
     io::write_all(
         STDOUT_FILENO,
         b"ledger file identity pending stores takes merged pending\n",
     );
-    row(window, l.low);
-    row(window, l.high);
-    row(window, l.other);
-    total(window, l);
+    row(first, second, l.low);
+    row(first, second, l.high);
+    row(first, second, l.other);
+    total(first, second, l);
 }
 
 fn main() {
-    let mut window = layout::two_entries(0x10000483, 0x100000000A000005, 0x10000503, 0xA000006);
+    let mut first = layout::two_entries(0x14000083, 0x100000000A000005, 0x10000503, 0xA000006);
+    let mut second = [0u8; 4096];
     let opening = Ledger {
-        low: opened(0x40001200, 37),
-        high: opened(0x40001200, 2047),
-        other: opened(0x40001400, 5),
+        low: opened(FAR, 37),
+        high: opened(FAR, 2047),
+        other: opened(NEAR, 5),
     };
-    run(&mut window, opening);
+    run(&mut first, &mut second, opening);
 }

@@ -1,32 +1,159 @@
--- The cases of `memory`, by the tests that a load makes. Assumes nothing.
-use Prim.Native.Nat.{ℕ, _+_, _-_, _≤_, _<_}
-use mathlib.Core.List.{List}
-use mathlib.Core.Path.{_≡_, ap, _∙_}
+-- An entry's bytes and the doublewords in them, over both windows. Assumes nothing.
+use Prim.Native.Nat.{ℕ, _+_, _-_, _^_, _≤_, _<_}
+use mathlib.Core.Bool.{Bool, true, false}
+use mathlib.Core.List.{List, []}
+use mathlib.Core.Path.{_≡_, refl, sym, ap, ap₂, subst, _∙_}
+use native.Mathlib.Nat.{add-zero}
 use native.Mathlib.Omega.{arith}
-use borrow.Author.Tests.{le-leb, lt-leb}
-use lib.ListN.{length}
-use Rattle.memory.specs.Window.{doubleword, memory}
+use borrow.Author.Tests.{le-leb, lt-leb, leb-true, leb-false}
+use lib.Dec.{leb}
+use lib.ListN.{length, getD, take, drop, length-drop}
+use lib.Seq.{length-take-le, getD-take, getD-drop}
+use Rattle.memory.specs.Choice.{pick}
+use Rattle.memory.specs.Window.{inside, doubleword, Window, Lent, windowAt, lent, holds, partIn, partOf, memory}
+use Rattle.memory.specs.declared.Starts.{Starts}
+use Rattle.memory.specs.declared.Load.{Load}
 use Rattle.memory.specs.declared.Load.the-variants.{Value, Violation}
+use Rattle.memory.proofs.Truth.{and-true}
+use Rattle.memory.proofs.Choices.{yes-is, no-is}
 
-pub memory-low : (start a : ℕ) (s : List ℕ) → a < start → Violation ≡ memory start s a
-unfolding memory
-memory-low start a s h = simp (lt-leb start a h)
+-- the tests of `holds` in the code
+module _ (start len a size : ℕ) where
+  pub below : a < start → false ≡ inside start len a size
+  below h = simp (lt-leb start a h)
 
-pub memory-high : (start a : ℕ) (s : List ℕ) → start ≤ a → start + length s < a + 8 → Violation ≡ memory start s a
-unfolding memory
-memory-high start a s g h = simp (le-leb start a g, lt-leb (a + 8) (start + length s) h)
+  pub short : len < size → start ≤ a → false ≡ inside start len a size
+  short h k = simp (le-leb start a k, lt-leb (a + size) (start + len) (omega arith))
 
-pub memory-in : (start a : ℕ) (s : List ℕ) → start ≤ a → a + 8 ≤ start + length s → Value (doubleword s (a - start)) ≡ memory start s a
-unfolding memory
-memory-in start a s h k = simp (le-leb start a h, le-leb (a + 8) (start + length s) k)
+  pub far : start ≤ a → size ≤ len → leb (a - start) (len - size) ≡ inside start len a size
+  far k j = go (leb (a - start) (len - size)) refl
+    where
+      go : (b : Bool) → leb (a - start) (len - size) ≡ b → b ≡ inside start len a size
+      go true e = simp (le-leb start a k, le-leb (a + size) (start + len) (let h = leb-true (a - start) (len - size) e in omega arith))
+      go false e = simp (le-leb start a k, lt-leb (a + size) (start + len) (let h = leb-false (a - start) (len - size) e in omega arith))
 
-pub memory-short : (start a : ℕ) (s : List ℕ) → length s < 8 → start ≤ a → Violation ≡ memory start s a
-memory-short start a s h k = memory-high start a s k (omega arith)
+pub ruleset holds-ways = (below, short, far)
 
-pub memory-far : (start a : ℕ) (s : List ℕ) → length s - 8 < a - start → 8 ≤ length s → start ≤ a → Violation ≡ memory start s a
-memory-far start a s h j k = memory-high start a s k (omega arith)
+-- what a test that holds says of a part's ends
+module _ (start len a size : ℕ) (b : Bool) (hb : b ≡ inside start len a size) (t : b ≡ true) where
+  both : (leb start a ≡ true) × (leb (a + size) (start + len) ≡ true)
+  both = and-true (leb start a) (leb (a + size) (start + len)) (sym hb ∙ t)
 
-pub memory-word : (start a v : ℕ) (s : List ℕ) → v ≡ doubleword s (a - start) → a - start ≤ length s - 8 → 8 ≤ length s → start ≤ a → Value v ≡ memory start s a
-memory-word start a v s e h j k = ap Value e ∙ memory-in start a s k (omega arith)
+  pub held-low : start ≤ a
+  held-low = leb-true start a (both .0)
 
-pub ruleset load-ways = (memory-low, memory-short, memory-far, memory-word)
+  pub held-high : a - start + size ≤ len
+  held-high = let lo = held-low in let hi = leb-true (a + size) (start + len) (both .1) in omega arith
+
+  pub held-fits : len < 2 ^ 64 → a - start + size < 2 ^ 64
+  held-fits f = let h = held-high in omega arith
+
+-- the part in each case
+module _ (start : ℕ) (xs : List ℕ) (a size : ℕ) (b : Bool) (hb : b ≡ inside start (length xs) a size) where
+  pub part-held : b ≡ true → take (a - start + size - (a - start)) (drop (a - start) xs) ≡ partIn (windowAt start xs) a size []
+  part-held t =
+      let e : a - start + size - (a - start) ≡ size = omega arith in
+      ap (λ n. take n (drop (a - start) xs)) e ∙ yes-is (inside start (length xs) a size) _ _ _ (sym hb ∙ t) refl
+
+  pub part-none : b ≡ false → take (0 - 0) (drop 0 xs) ≡ partIn (windowAt start xs) a size []
+  part-none t = no-is (inside start (length xs) a size) _ _ _ (sym hb ∙ t) refl
+
+pub ruleset part-ways = (held-low, held-high, held-fits, part-held, part-none)
+
+module _ (starts : Starts) (xs ys : List ℕ) (a size : ℕ) (b : Bool) (hb : b ≡ inside (starts .first) (length xs) a size) where
+  pub entry-first : {r : List ℕ} → b ≡ true → r ≡ partIn (windowAt (starts .first) xs) a size [] → r ≡ partOf (lent starts xs ys) a size
+  unfolding partOf
+  entry-first t e =
+      let h = sym hb ∙ t in
+      yes-is (inside (starts .first) (length xs) a size) _ _ _ h (e ∙ sym (yes-is (inside (starts .first) (length xs) a size) _ _ _ h refl))
+
+  pub entry-second : {r : List ℕ} → b ≡ false → r ≡ partIn (windowAt (starts .second) ys) a size [] → r ≡ partOf (lent starts xs ys) a size
+  unfolding partOf
+  entry-second t e = no-is (inside (starts .first) (length xs) a size) _ _ _ (sym hb ∙ t) e
+
+pub ruleset entry-ways = (entry-first, entry-second)
+
+-- the bytes of a doubleword, wherever they stand
+pub same-doubleword : (xs ys : List ℕ) (i j : ℕ) → ((k : ℕ) → k < 8 → getD xs (i + k) 0 ≡ getD ys (j + k) 0) → doubleword xs i ≡ doubleword ys j
+same-doubleword xs ys i j h =
+    let b0 : getD xs i 0 ≡ getD ys j 0 = ap (λ n. getD xs n 0) (sym (add-zero i)) ∙ h 0 (omega arith) ∙ ap (λ n. getD ys n 0) (add-zero j) in
+    rw (b0, h 1 (omega arith), h 2 (omega arith), h 3 (omega arith), h 4 (omega arith), h 5 (omega arith), h 6 (omega arith), h 7 (omega arith))
+
+-- a doubleword of an entry is one of the window
+pub part-word : (xs : List ℕ) (i size k : ℕ) → k + 8 ≤ size → doubleword (take size (drop i xs)) k ≡ doubleword xs (i + k)
+part-word xs i size k room = same-doubleword (take size (drop i xs)) xs k (i + k) byte
+  where
+    byte : (n : ℕ) → n < 8 → getD (take size (drop i xs)) (k + n) 0 ≡ getD xs (i + k + n) 0
+    byte n h =
+        getD-take size (drop i xs) (k + n) 0 (omega arith) ∙ getD-drop i xs (k + n) 0
+        ∙ ap (λ m. getD xs m 0) (let e : i + (k + n) ≡ i + k + n = omega arith in e)
+
+part-long : (xs : List ℕ) (i size : ℕ) → i + size ≤ length xs → length (take size (drop i xs)) ≡ size
+part-long xs i size h = length-take-le size (drop i xs) (let d = length-drop i xs in omega arith)
+
+-- the doubleword at an address b in an entry at a, where each window that has it has the whole entry
+module _ (l : Lent) (a size b k : ℕ) (place : b ≡ a + k) (room : k + 8 ≤ size)
+    (f : holds (l .first) b 8 ≡ holds (l .first) a size) (g : holds (l .second) b 8 ≡ holds (l .second) a size) where
+  abbrev cut : Window → List ℕ
+  cut w = take size (drop (a - w .start) (w .bytes))
+
+  abbrev at : Window → Load
+  at w = Value (doubleword (w .bytes) (b - w .start))
+
+  word : (w : Window) → holds w a size ≡ true → Value (doubleword (cut w) k) ≡ at w
+  word w h =
+      let lo = held-low (w .start) (length (w .bytes)) a size true (sym h) refl in
+      let e : a - w .start + k ≡ b - w .start = omega arith in
+      ap Value (part-word (w .bytes) (a - w .start) size k room ∙ ap (doubleword (w .bytes)) e)
+
+  long : (w : Window) → holds w a size ≡ true → length (cut w) ≡ size
+  long w h = part-long (w .bytes) (a - w .start) size (held-high (w .start) (length (w .bytes)) a size true (sym h) refl)
+
+  by-both : {x : Load} → x ≡ pick (holds (l .first) a size) (at (l .first)) (pick (holds (l .second) a size) (at (l .second)) Violation) → x ≡ memory l b
+  unfolding memory
+  by-both e = e ∙ sym (ap₂ (λ p q. pick p (at (l .first)) (pick q (at (l .second)) Violation)) f g)
+
+  pub whole-word : size ≤ length (partOf l a size) → Value (doubleword (partOf l a size) k) ≡ memory l b
+  unfolding partOf
+  whole-word h = by-both (go (holds (l .first) a size) (holds (l .second) a size) refl refl h)
+    where
+      go : (p q : Bool) → holds (l .first) a size ≡ p → holds (l .second) a size ≡ q → size ≤ length (pick p (cut (l .first)) (pick q (cut (l .second)) []))
+          → Value (doubleword (pick p (cut (l .first)) (pick q (cut (l .second)) [])) k) ≡ pick p (at (l .first)) (pick q (at (l .second)) Violation)
+      go true q hp hq n = word (l .first) hp
+      go false true hp hq n = word (l .second) hq
+      go false false hp hq n = absurd (omega arith)
+
+  pub whole-none : length (partOf l a size) < size → Violation ≡ memory l b
+  unfolding partOf
+  whole-none h = by-both (go (holds (l .first) a size) (holds (l .second) a size) refl refl h)
+    where
+      go : (p q : Bool) → holds (l .first) a size ≡ p → holds (l .second) a size ≡ q → length (pick p (cut (l .first)) (pick q (cut (l .second)) [])) < size
+          → Violation ≡ pick p (at (l .first)) (pick q (at (l .second)) Violation)
+      go true q hp hq n = let e = long (l .first) hp in absurd (omega arith)
+      go false true hp hq n = let e = long (l .second) hq in absurd (omega arith)
+      go false false hp hq n = refl
+
+-- a load, by its part of eight bytes
+module _ (l : Lent) (a : ℕ) (e : List ℕ) (he : e ≡ partOf l a 8) where
+  same : a ≡ a + 0
+  same = sym (add-zero a)
+
+  pub load-none : length e < 8 → Violation ≡ memory l a
+  load-none h = whole-none l a 8 a 0 same (omega arith) refl refl (subst (λ (x : List ℕ). length x < 8) he h)
+
+  pub load-word : (v : ℕ) → 8 ≤ length e → v ≡ doubleword e 0 → Value v ≡ memory l a
+  load-word v h hv =
+      ap Value (hv ∙ ap (λ x. doubleword x 0) he) ∙ whole-word l a 8 a 0 same (omega arith) refl refl (subst (λ (x : List ℕ). 8 ≤ length x) he h)
+
+pub ruleset load-ways = (load-none, load-word)
+
+-- the part has all its bytes where a window holds them
+module _ (starts : Starts) (xs ys : List ℕ) (a size : ℕ) where
+  pub part-long-first : inside (starts .first) (length xs) a size ≡ true → length (partOf (lent starts xs ys) a size) ≡ size
+  unfolding partOf
+  part-long-first e = simp e (part-long xs (a - starts .first) size (held-high (starts .first) (length xs) a size true (sym e) refl))
+
+  pub part-long-second : inside (starts .first) (length xs) a size ≡ false → inside (starts .second) (length ys) a size ≡ true
+      → length (partOf (lent starts xs ys) a size) ≡ size
+  unfolding partOf
+  part-long-second f e = simp (f, e) (part-long ys (a - starts .second) size (held-high (starts .second) (length ys) a size true (sym e) refl))

@@ -2,3 +2,4 @@ pub mod Choice
 pub mod Bits
 pub mod Window
 pub mod Walk
+pub mod Code

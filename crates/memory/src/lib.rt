@@ -1,9 +1,18 @@
-// The lent window as memory.
+// The two lent windows as memory.
 ghost use mathlib.Core.Path.{_≡_};
+ghost use mathlib.Core.List.{[]};
 ghost use Prim.Native.Nat.{_+_, _≤_, _<_};
 ghost use lib.ListN.{length};
+ghost use Rattle.memory.specs.Choice.{pick};
 ghost use Rattle.memory.specs.Bits.{bit as bitOf, bits, anySet};
-ghost use Rattle.memory.specs.Window.{little, doubleword, memory};
+ghost use Rattle.memory.specs.Window.{inside, little, doubleword, windowAt, lent, partIn, partOf, memory};
+ghost use Rattle.memory.specs.Code.{orderedStarts};
+
+// Where the two windows start.
+pub struct Starts {
+    pub first: u64,
+    pub second: u64,
+}
 
 // A doubleword that was read, or an access violation.
 pub enum Load {
@@ -42,22 +51,72 @@ pub fn doubleword_at(bytes: &[u8], i: usize) -> u64
     )
 }
 
-// The doubleword at an address.
-pub fn load64(start: u64, window: &[u8], a: u64) -> Load
-    ensures { λ r. ⌜ r ≡ memory start (now (window .entry)) a ⌝ }
+// All of `size` bytes from an address lie in a window; no sum here can wrap.
+pub fn holds(start: u64, len: u64, a: u64, size: u64) -> bool
+    ensures { λ r. ⌜ r ≡ inside start len a size ⌝ }
 {
     if a < start {
+        return false;
+    }
+    if len < size {
+        return false;
+    }
+    a - start <= len - size
+}
+
+// The bytes of an entry, as a part of one window; none where it doesn't hold it.
+fn part<'a>(start: u64, window: &'a [u8], a: u64, size: u64) -> &'a [u8]
+    ensures { λ r. ⌜ now r ≡ partIn (windowAt start (now (window .entry))) a size [] ⌝ }
+{
+    if holds(start, window.len() as u64, a, size) {
+        let i = (a - start) as usize;
+        return &window[i..i + size as usize];
+    }
+    &window[0..0]
+}
+
+// The bytes of an entry, as a part of whichever window holds it; none where neither does. The second window is looked at only where the first doesn't hold it.
+pub fn entry<'a>(starts: Starts, first: &'a [u8], second: &'a [u8], a: u64, size: u64) -> &'a [u8]
+    ensures { λ r. ⌜ now r ≡ partOf (lent starts (now (first .entry)) (now (second .entry))) a size ⌝ }
+{
+    if holds(starts.first, first.len() as u64, a, size) {
+        return part(starts.first, first, a, size);
+    }
+    part(starts.second, second, a, size)
+}
+
+// The starts in the other order, or as they are.
+pub fn ordered(swap: bool, starts: Starts) -> Starts
+    ensures { λ r. ⌜ r ≡ orderedStarts swap starts ⌝ }
+{
+    if swap {
+        return Starts {
+            first: starts.second,
+            second: starts.first,
+        };
+    }
+    starts
+}
+
+// The other of two windows, or the one.
+pub fn chosen<'a>(swap: bool, one: &'a [u8], other: &'a [u8]) -> &'a [u8]
+    ensures { λ r. ⌜ now r ≡ pick swap (now (other .entry)) (now (one .entry)) ⌝ }
+{
+    if swap {
+        return other;
+    }
+    one
+}
+
+// The doubleword at an address.
+pub fn load64<'a>(starts: Starts, first: &'a [u8], second: &'a [u8], a: u64) -> Load
+    ensures { λ r. ⌜ r ≡ memory (lent starts (now (first .entry)) (now (second .entry))) a ⌝ }
+{
+    let e = entry(starts, first, second, a, 8);
+    if e.len() < 8 {
         return Load::Violation;
     }
-    let at = a - start;
-    let n = window.len() as u64;
-    if n < 8 {
-        return Load::Violation;
-    }
-    if n - 8 < at {
-        return Load::Violation;
-    }
-    Load::Value(doubleword_at(window, at as usize))
+    Load::Value(doubleword_at(e, 0))
 }
 
 // Bit k of a doubleword is 1.

@@ -3,10 +3,11 @@ use causes::Access;
 use causes::FaultInfo;
 use causes::Stage;
 use memory::Load;
+use memory::Starts;
 ghost use mathlib.Core.Path.{_≡_};
 ghost use Prim.Native.Nat.{_*_, _%_, _^_, _<_};
 ghost use lib.Dec.{eqb};
-ghost use Rattle.memory.specs.Window.{memory};
+ghost use Rattle.memory.specs.Window.{lent, memory};
 ghost use Rattle.memory.specs.Walk.{run};
 ghost use Rattle.message.specs.Table.{alignment, tableFault, permitted as permittedOf, translateReserved, recordReserved, destinationOf, onTranslate, onNotice, onMessageEntry, messageOf};
 
@@ -109,9 +110,17 @@ fn on_notice(x: Access, e: u64, n: u64) -> Message
 }
 
 // What an entry says; the second doubleword is read in MRIF mode alone.
-fn on_message_entry(x: Access, a: u64, start: u64, window: &[u8], at: u64, e: u64) -> Message
+fn on_message_entry<'a>(
+    x: Access,
+    a: u64,
+    starts: Starts,
+    first: &'a [u8],
+    second: &'a [u8],
+    at: u64,
+    e: u64,
+) -> Message
     requires { ⌜ at < 2 ^ 57 ⌝ }
-    ensures { λ r. ⌜ r ≡ run (memory start (now (window .entry))) (onMessageEntry x a at e) ⌝ }
+    ensures { λ r. ⌜ r ≡ run (memory (lent starts (now (first .entry)) (now (second .entry)))) (onMessageEntry x a at e) ⌝ }
 {
     if !memory::bit(e, 0) {
         return table_fault(262);
@@ -126,23 +135,31 @@ fn on_message_entry(x: Access, a: u64, start: u64, window: &[u8], at: u64, e: u6
     if mode != 1 {
         return table_fault(263);
     }
-    let Load::Value(n) = memory::load64(start, window, at + 8) else {
+    let Load::Value(n) = memory::load64(starts, first, second, at + 8) else {
         return table_fault(261);
     };
     on_notice(x, e, n)
 }
 
 // What the table at a page says of a message to a guest address.
-pub fn message_of(page: u64, mask: u64, x: Access, start: u64, window: &[u8], a: u64) -> Message
+pub fn message_of<'a>(
+    page: u64,
+    mask: u64,
+    x: Access,
+    starts: Starts,
+    first: &'a [u8],
+    second: &'a [u8],
+    a: u64,
+) -> Message
     requires { ⌜ (page < 2 ^ 44) × (mask < 2 ^ 52) ⌝ }
-    ensures { λ r. ⌜ r ≡ run (memory start (now (window .entry))) (messageOf page mask x a) ⌝ }
+    ensures { λ r. ⌜ r ≡ run (memory (lent starts (now (first .entry)) (now (second .entry)))) (messageOf page mask x a) ⌝ }
 {
     if !aligned(page, mask) {
         return table_fault(263);
     }
     let at = page * 4096 + 16 * message_recognition::extract(a / 4096, mask);
-    let Load::Value(e) = memory::load64(start, window, at) else {
+    let Load::Value(e) = memory::load64(starts, first, second, at) else {
         return table_fault(261);
     };
-    on_message_entry(x, a, start, window, at, e)
+    on_message_entry(x, a, starts, first, second, at, e)
 }

@@ -1,36 +1,22 @@
 -- The walk by steps without causes says what the walk of the definitions says. Assumes nothing.
-use Prim.Native.Nat.{ℕ, zero, suc, _+_, _*_, _/_, _%_, _^_}
-use mathlib.Core.Bool.{Bool, true, false, not, _&&_}
+use Prim.Native.Nat.{ℕ, zero, suc}
+use mathlib.Core.Bool.{Bool, true, false}
 use mathlib.Core.Path.{_≡_, refl, ap, _∙_}
-use native.Mathlib.Omega.{arith}
-use borrow.Author.Tests.{lt-ltb}
-use lib.Dec.{eqb}
 use Rattle.memory.specs.Choice.{pick}
-use Rattle.memory.specs.Bits.{bit}
 use Rattle.memory.specs.declared.Load.{Load}
-use Rattle.memory.specs.declared.Load.the-variants.{Value, Violation}
 use Rattle.memory.specs.Walk.{Walk, done, run}
-use Rattle.causes.specs.declared.Access.{Access}
-use Rattle.causes.specs.declared.Access.the-variants.{Read, Write, Execute}
 use Rattle.paging_scheme.specs.declared.Scheme.{Scheme}
-use Rattle.paging_entry.specs.declared.Purpose.{Purpose}
 use Rattle.paging_entry.specs.declared.Lookup.{Lookup}
-use Rattle.paging_entry.specs.declared.Leaf.{Leaf}
-use Rattle.paging_entry.specs.declared.Entry.{Entry}
-use Rattle.paging_entry.specs.declared.Entry.the-variants.{Table, Maps}
-use Rattle.paging_entry.specs.declared.Translation.the-variants.{To}
 use Rattle.paging_entry.specs.declared.Step.{Step}
-use Rattle.paging_entry.specs.declared.Step.the-variants.{Stop}
 use Rattle.paging_entry.specs.declared.Raw.{Raw}
 use Rattle.paging_entry.specs.declared.Raw.the-variants.{Arrive, Next, Faulty, Unread}
-use Rattle.paging_scheme.specs.Scheme.{levelsOf, pageBitsOf, legalOf}
+use Rattle.paging_scheme.specs.Scheme.{levelsOf, legalOf}
 use Rattle.paging_entry.specs.Purpose.{askedOf}
-use Rattle.paging_entry.specs.Entry.{entryPage, kindOf, entryOf, permits, ownedBy, allows, mappedBy}
-use Rattle.paging_entry.specs.Entry.{faulted, onEntry, onLoad}
+use Rattle.paging_entry.specs.Entry.{faulted}
 use Rattle.paging.specs.Levels.{onStep, entryAt, levelStep, levels, walkOf}
 use Rattle.paging.specs.Stages.{direct}
 use Rattle.paging_entry.proofs.EntryLaws.{tested}
-use Rattle.paging_entry.specs.Code.{testOf, tableBits, rawLoad, toStep, toldOf, faultyEnd, codeOf, toldBy, Tight}
+use Rattle.paging_entry.specs.Code.{testOf, rawLoad, toStep, toldOf}
 use Rattle.paging.specs.Code.{onRaw, rawLevels, rawWalk}
 
 -- a walk of entries that lie where their addresses say

@@ -1,6 +1,7 @@
 // Page-table walks of the first and the second stage.
 use causes::Access;
 use memory::Load;
+use memory::Starts;
 use paging_entry::LeafTest;
 use paging_entry::Lookup;
 use paging_entry::Pages;
@@ -12,7 +13,7 @@ use paging_scheme::Scheme;
 ghost use mathlib.Core.Path.{_≡_};
 ghost use mathlib.Core.Bool.{true, false};
 ghost use Prim.Native.Nat.{_+_, _-_, _*_, _<_, _^_};
-ghost use Rattle.memory.specs.Window.{memory};
+ghost use Rattle.memory.specs.Window.{lent, memory};
 ghost use Rattle.memory.specs.Walk.{run};
 ghost use Rattle.paging_scheme.specs.Scheme.{levelsOf, signedOf, legalOf, pageBitsOf, indexOf};
 ghost use Rattle.paging_entry.specs.Purpose.{askedOf};
@@ -46,18 +47,19 @@ fn entry_at(table: u64, i: u64) -> u64
 }
 
 // The walk of a table whose entries lie where their addresses say, from the root's shift and index. Its end is one number, so that it comes back in a register; causes come after it. The scheme and the level are for the promise alone, and the compiler drops them.
-fn descend(
+fn descend<'a>(
     s: Scheme,
     t: LeafTest,
     a: u64,
     top: u64,
     index: u64,
-    start: u64,
-    window: &[u8],
+    starts: Starts,
+    first: &'a [u8],
+    second: &'a [u8],
     root: u64,
 ) -> u64
     requires { ⌜ (root < 2 ^ 44) × (legalOf s a ≡ true) × (top ≡ pageBitsOf (levelsOf s - 1)) × (index ≡ indexOf s a (levelsOf s - 1)) × (index < 2048) ⌝ }
-    ensures { λ r. ⌜ (r ≡ codeOf (run (memory start (now (window .entry))) (rawWalk s t a root))) × Tight (run (memory start (now (window .entry))) (rawWalk s t a root)) ⌝ }
+    ensures { λ r. ⌜ (r ≡ codeOf (run (memory (lent starts (now (first .entry)) (now (second .entry)))) (rawWalk s t a root))) × Tight (run (memory (lent starts (now (first .entry)) (now (second .entry)))) (rawWalk s t a root)) ⌝ }
 {
     let mut n = s.levels() - 1;
     let mut shift = top;
@@ -65,7 +67,7 @@ fn descend(
     let mut i = index;
     let mut at = entry_at(root, index);
     loop {
-        match paging_entry::read_entry(t, a, n, shift, memory::load64(start, window, at)) {
+        match paging_entry::read_entry(t, a, n, shift, memory::load64(starts, first, second, at)) {
             Raw::Next(next) => {
                 if shift < 21 {
                     return paging_entry::FAULTY;
@@ -90,9 +92,16 @@ fn descend(
 }
 
 // The walk of a guest address. Above its root's shift a legal one has the root's index, of eleven bits, and nothing else.
-fn guest_walk(g: PageTable, t: LeafTest, start: u64, window: &[u8], a: u64) -> u64
+fn guest_walk<'a>(
+    g: PageTable,
+    t: LeafTest,
+    starts: Starts,
+    first: &'a [u8],
+    second: &'a [u8],
+    a: u64,
+) -> u64
     requires { ⌜ (g .root < 2 ^ 44) × (signedOf (g .scheme) ≡ false) ⌝ }
-    ensures { λ r. ⌜ (r ≡ codeOf (run (memory start (now (window .entry))) (rawWalk (g .scheme) t a (g .root)))) × Tight (run (memory start (now (window .entry))) (rawWalk (g .scheme) t a (g .root))) ⌝ }
+    ensures { λ r. ⌜ (r ≡ codeOf (run (memory (lent starts (now (first .entry)) (now (second .entry)))) (rawWalk (g .scheme) t a (g .root)))) × Tight (run (memory (lent starts (now (first .entry)) (now (second .entry)))) (rawWalk (g .scheme) t a (g .root))) ⌝ }
 {
     let s = g.scheme;
     let top = paging_scheme::root_shift(s.levels());
@@ -100,65 +109,68 @@ fn guest_walk(g: PageTable, t: LeafTest, start: u64, window: &[u8], a: u64) -> u
     if 2047 < index {
         return paging_entry::FAULTY;
     }
-    descend(s, t, a, top, index, start, window, g.root)
+    descend(s, t, a, top, index, starts, first, second, g.root)
 }
 
 // A guest address, by the second stage.
-pub fn second_stage(
+pub fn second_stage<'a>(
     g: PageTable,
     p: Purpose,
     x: Access,
-    start: u64,
-    window: &[u8],
+    starts: Starts,
+    first: &'a [u8],
+    second: &'a [u8],
     a: u64,
 ) -> Translation
     requires { ⌜ (g .root < 2 ^ 44) × (signedOf (g .scheme) ≡ false) ⌝ }
-    ensures { λ r. ⌜ (r ≡ run (memory start (now (window .entry))) (secondStageOf g p x a)) × Within a r ⌝ }
+    ensures { λ r. ⌜ (r ≡ run (memory (lent starts (now (first .entry)) (now (second .entry)))) (secondStageOf g p x a)) × Within a r ⌝ }
 {
     if g.on {
         let t = paging_entry::leaf_test(paging_entry::asked(p, x), Pages::User);
-        return paging_entry::told(p, x, guest_walk(g, t, start, window, a));
+        return paging_entry::told(p, x, guest_walk(g, t, starts, first, second, a));
     }
     Translation::To(a)
 }
 
 // One level of a first-stage table, whose entries lie at guest addresses. A fault's cause is made where there is one.
-fn guest_level(
+fn guest_level<'a>(
     s: Scheme,
     q: Lookup,
     t: LeafTest,
     g: PageTable,
-    start: u64,
-    window: &[u8],
+    starts: Starts,
+    first: &'a [u8],
+    second: &'a [u8],
     n: u64,
     table: u64,
 ) -> Step
     requires { ⌜ (n < 5) × (table < 2 ^ 44) × (g .on ≡ true) × (g .root < 2 ^ 44) × (signedOf (g .scheme) ≡ false) × (t ≡ testOf (askedOf (q .purpose) (q .access)) (q .pages)) ⌝ }
-    ensures { λ r. ⌜ (r ≡ run (memory start (now (window .entry))) (levelStep s q (entryPlace g q) n table)) × Small r ⌝ }
+    ensures { λ r. ⌜ (r ≡ run (memory (lent starts (now (first .entry)) (now (second .entry)))) (levelStep s q (entryPlace g q) n table)) × Small r ⌝ }
 {
     let x = q.access;
     let at = entry_at(table, s.index(q.address, n));
     let read = paging_entry::leaf_test(Access::Read, Pages::User);
-    let place = guest_walk(g, read, start, window, at);
+    let place = guest_walk(g, read, starts, first, second, at);
     if paging_entry::FAULTY <= place {
         return Step::Stop(paging_entry::told(Purpose::FirstStageEntry, x, place));
     }
     let o = q.purpose;
-    let v = memory::load64(start, window, place);
+    let v = memory::load64(starts, first, second, place);
     let shift = paging_scheme::page_shift(n);
     paging_entry::stepped(o, x, paging_entry::read_entry(t, q.address, n, shift, v))
 }
 
-fn guest_descend(
+fn guest_descend<'a>(
     s: Scheme,
     q: Lookup,
     g: PageTable,
-    start: u64,
-    window: &[u8],
+    starts: Starts,
+    first: &'a [u8],
+    second: &'a [u8],
     root: u64,
 ) -> Translation
     requires { ⌜ (root < 2 ^ 44) × (g .on ≡ true) × (g .root < 2 ^ 44) × (signedOf (g .scheme) ≡ false) ⌝ }
-    ensures { λ r. ⌜ r ≡ run (memory start (now (window .entry))) (levelsFrom s q (entryPlace g q) (levelsOf s) root) ⌝ }
+    ensures { λ r. ⌜ r ≡ run (memory (lent starts (now (first .entry)) (now (second .entry)))) (levelsFrom s q (entryPlace g q) (levelsOf s) root) ⌝ }
 {
     let o = q.purpose;
     let x = q.access;
@@ -168,7 +180,7 @@ fn guest_descend(
     let mut table = root;
     while 0 < left {
         left -= 1;
-        match guest_level(s, q, t, g, start, window, left, table) {
+        match guest_level(s, q, t, g, starts, first, second, left, table) {
             Step::Stop(end) => {
                 return end;
             }
@@ -181,9 +193,16 @@ fn guest_descend(
 }
 
 // The walk of the device's address by tables that lie where their addresses say.
-fn device_walk(f: PageTable, t: LeafTest, start: u64, window: &[u8], a: u64) -> u64
+fn device_walk<'a>(
+    f: PageTable,
+    t: LeafTest,
+    starts: Starts,
+    first: &'a [u8],
+    second: &'a [u8],
+    a: u64,
+) -> u64
     requires { ⌜ f .root < 2 ^ 44 ⌝ }
-    ensures { λ r. ⌜ (r ≡ codeOf (run (memory start (now (window .entry))) (rawWalk (f .scheme) t a (f .root)))) × Tight (run (memory start (now (window .entry))) (rawWalk (f .scheme) t a (f .root))) ⌝ }
+    ensures { λ r. ⌜ (r ≡ codeOf (run (memory (lent starts (now (first .entry)) (now (second .entry)))) (rawWalk (f .scheme) t a (f .root)))) × Tight (run (memory (lent starts (now (first .entry)) (now (second .entry)))) (rawWalk (f .scheme) t a (f .root))) ⌝ }
 {
     let s = f.scheme;
     if !s.legal(a) {
@@ -197,24 +216,26 @@ fn device_walk(f: PageTable, t: LeafTest, start: u64, window: &[u8], a: u64) -> 
         a,
         paging_scheme::root_shift(levels),
         index,
-        start,
-        window,
+        starts,
+        first,
+        second,
         f.root,
     )
 }
 
 // The device's address, by the first stage.
-pub fn first_stage(
+pub fn first_stage<'a>(
     f: PageTable,
     g: PageTable,
     x: Access,
     pages: Pages,
-    start: u64,
-    window: &[u8],
+    starts: Starts,
+    first: &'a [u8],
+    second: &'a [u8],
     a: u64,
 ) -> Translation
     requires { ⌜ (f .root < 2 ^ 44) × (g .root < 2 ^ 44) × (signedOf (g .scheme) ≡ false) ⌝ }
-    ensures { λ r. ⌜ r ≡ run (memory start (now (window .entry))) (firstStageOf f g x pages a) ⌝ }
+    ensures { λ r. ⌜ r ≡ run (memory (lent starts (now (first .entry)) (now (second .entry)))) (firstStageOf f g x pages a) ⌝ }
 {
     if f.on {
         let s = f.scheme;
@@ -226,12 +247,16 @@ pub fn first_stage(
                 pages,
             };
             if s.legal(a) {
-                return guest_descend(s, q, g, start, window, f.root);
+                return guest_descend(s, q, g, starts, first, second, f.root);
             }
             return faulted(q);
         }
         let t = paging_entry::leaf_test(x, pages);
-        return paging_entry::told(Purpose::FirstStage, x, device_walk(f, t, start, window, a));
+        return paging_entry::told(
+            Purpose::FirstStage,
+            x,
+            device_walk(f, t, starts, first, second, a),
+        );
     }
     Translation::To(a)
 }

@@ -82,8 +82,9 @@ abbrev readAt : ℕ → ℕ → ℕ → List ℕ
 readAt first second a =
     shown
     (requestOf
-    (record { start = 0x40003000; mode = 2; root = 0x40003 })
+    (record { starts = record { first = 0x40003000; second = 0 }; mode = 2; root = 0x40003 })
     tables
+    []
     (record {
       device = 4 * first + second;
       process = Absent;

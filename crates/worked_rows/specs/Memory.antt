@@ -1,4 +1,4 @@
--- The memory of the worked cases, written as doublewords, and the settings that they run under: one window start and one root.
+-- The memory of the worked cases, written as doublewords, and the settings that they run under: the first window's start, an empty second window at 0, and one root.
 use Prim.Native.Nat.{ℕ, _/_, _%_, _^_}
 use mathlib.Core.List.{List, [], _∷_, _++_}
 use Rattle.iommu_refusals.specs.declared.Settings.{Settings}
@@ -17,7 +17,7 @@ words (v ∷ vs) = eight v ++ words vs
 pub start : ℕ
 start = 0x40000000
 
--- the directory's mode, its root the window's first page
+-- the directory's mode, its root the first window's first page
 unfoldable pub inMode : ℕ → Settings
 unfolding start
-inMode mode = record { start = start; mode = mode; root = 0x40000 }
+inMode mode = record { starts = record { first = start; second = 0 }; mode = mode; root = 0x40000 }

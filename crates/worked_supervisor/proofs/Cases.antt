@@ -12,7 +12,7 @@ use Rattle.directory_context.specs.Device.{deviceMisconfigured}
 use Rattle.directory_device.specs.Device.{deviceContextAt, deviceContextOf}
 use Rattle.directory_context.specs.Process.{processMisconfigured}
 use Rattle.directory_process.specs.Process.{processContextAt, processContextOf, processTable, firstTableOf}
-use Rattle.iommu_refusals.specs.Refusals.{badWindow, requestRefusal}
+use Rattle.iommu_refusals.specs.Refusals.{badWindow, overlap, requestRefusal}
 use Rattle.iommu_translation.specs.Translate.{untranslated, isMessage, guestOf, stagesOf, directoryOf, translateOf}
 use Rattle.iommu.specs.Request.{finish, requestOf}
 use Rattle.worked_rows.specs.Memory.{inMode}
@@ -20,5 +20,5 @@ use Rattle.worked_rows.specs.Rows.{Agrees}
 use Rattle.worked_supervisor.specs.Supervisor.{bytes, supervisors}
 
 pub supervisors-hold : Agrees supervisors
-unfolding memory legalOf indexOf entryOf allows mappedBy onLoad levelStep levels walkOf secondStageOf firstStageOf pointerOf leafPlace tooWide deviceMisconfigured deviceContextAt deviceContextOf processMisconfigured processContextAt processContextOf processTable firstTableOf badWindow requestRefusal untranslated isMessage guestOf stagesOf directoryOf translateOf finish requestOf inMode bytes supervisors
+unfolding memory legalOf indexOf entryOf allows mappedBy onLoad levelStep levels walkOf secondStageOf firstStageOf pointerOf leafPlace tooWide deviceMisconfigured deviceContextAt deviceContextOf processMisconfigured processContextAt processContextOf processTable firstTableOf badWindow overlap requestRefusal untranslated isMessage guestOf stagesOf directoryOf translateOf finish requestOf inMode bytes supervisors
 supervisors-hold = (refl, (refl, (refl, (refl, (refl, (refl, (refl, (refl, (refl, (refl, (refl, (refl, (refl, (refl, (refl, (refl, (refl, (refl, (refl, (refl, (refl, (refl, (refl, (refl, tt))))))))))))))))))))))))

@@ -34,7 +34,7 @@ asks supervisor sum u x =
     }
 
 abbrev answerTo : Bool → Bool → Bool → Access → List ℕ
-answerTo supervisor sum u x = shown (requestOf (inMode 2) bytes (asks supervisor sum u x) 0)
+answerTo supervisor sum u x = shown (requestOf (inMode 2) bytes [] (asks supervisor sum u x) 0)
 
 -- translated, to the page with this U
 abbrev admitted : Bool → List ℕ

@@ -16,4 +16,5 @@ face-spec =
     (λ c κs. tt)
     (λ c κs. tt)
     (λ c. search needs)
+    (λ c. search needs)
     (λ c. search (face-ways, needs)))

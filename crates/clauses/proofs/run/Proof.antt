@@ -6,10 +6,10 @@ use Rattle.clauses.proofs.run.Statement.{statement}
 use Rattle.clauses.proofs.run.Tie as tie
 
 abbrev Inv-loop : tie.InvT-loop
-Inv-loop text memory₀ domain₀ s₀ number₀ at₀ memory domain s number at = Unit {0}
+Inv-loop text first₀ second₀ domain₀ s₀ number₀ at₀ first second domain s number at = Unit {0}
 
 abbrev μ-loop : tie.MeasureT-loop
-μ-loop text memory₀ domain₀ s₀ number₀ at₀ memory domain s number at = length text - at
+μ-loop text first₀ second₀ domain₀ s₀ number₀ at₀ first second domain s number at = length text - at
 
 pub run-spec : {M : Type 1} → statement M
 run-spec =

@@ -1,7 +1,7 @@
 -- `device_place` ends where the walk over non-leaf entries ends. The invariant: what is left of the walk has the whole walk's answer. Assumes nothing.
-use Prim.Native.Nat.{_-_, _*_, _<_, _^_}
+use Prim.Native.Nat.{_-_, _*_, _%_, _<_, _^_}
 use mathlib.Core.Path.{_≡_}
-use Rattle.memory.specs.Window.{memory}
+use Rattle.memory.specs.Window.{lent, memory}
 use Rattle.memory.specs.Walk.{run}
 use Rattle.paging.specs.Stages.{direct}
 use Rattle.directory_entry.specs.declared.Tree.the-variants.{Device}
@@ -12,12 +12,12 @@ use Rattle.directory_device.proofs.device_place.Statement.{statement}
 use Rattle.directory_device.proofs.device_place.Tie as tie
 
 abbrev Inv-loop : tie.InvT-loop
-Inv-loop levels root d start window left₀ table₀ left table =
-    (table < 2 ^ 56)
-    × (run (memory start window) (leafPlace Device d direct (left - 1) table) ≡ run (memory start window) (leafPlace Device d direct (levels - 1) (root * 4096)))
+Inv-loop levels root d starts first second left₀ table₀ left table =
+    (table < 2 ^ 56) × (table % 4096 ≡ 0)
+    × (run (memory (lent starts first second)) (leafPlace Device d direct (left - 1) table) ≡ run (memory (lent starts first second)) (leafPlace Device d direct (levels - 1) (root * 4096)))
 
 abbrev μ-loop : tie.MeasureT-loop
-μ-loop levels root d start window left₀ table₀ left table = left
+μ-loop levels root d starts first second left₀ table₀ left table = left
 
 pub device-place-spec : {M : Type 1} → statement M
 device-place-spec =

@@ -1,4 +1,3 @@
--- `report` meets its contract: one law for each return. Assumes nothing.
 use Rattle.iommu.proofs.Files.{report-ways}
 use borrow.Author.Needs.{needs}
 use Rattle.iommu.proofs.report.Statement.{statement}
@@ -8,9 +7,9 @@ pub report-spec : {M : Type 1} → statement M
 report-spec =
     tie.close
     (tie.spec
-    (λ c κs. tt)
-    (λ c. search (report-ways, needs))
+    (λ c κs. search needs)
+    (λ c κs. search needs)
     (λ c κs. search (report-ways, needs))
     (λ c. search (report-ways, needs))
-    (λ c κs. tt)
+    (λ c κs. search needs)
     (λ c. search (report-ways, needs)))

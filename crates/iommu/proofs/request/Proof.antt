@@ -1,4 +1,3 @@
--- `request` meets its contract: one law for each return. Assumes nothing.
 use Rattle.iommu.proofs.Requests.{request-ways}
 use borrow.Author.Needs.{needs}
 use Rattle.iommu.proofs.request.Statement.{statement}
@@ -8,19 +7,23 @@ pub request-spec : {M : Type 1} → statement M
 request-spec =
     tie.close
     (tie.spec
-    (λ c κs. tt)
+    (λ c κs. search needs)
     (λ c κs. search (request-ways, needs))
     (λ c. search needs)
     (λ c. search needs)
-    (λ c. search (request-ways, needs))
-    (λ c. search needs)
     (λ c. search needs)
     (λ c. search (request-ways, needs))
     (λ c. search needs)
     (λ c. search needs)
+    (λ c. search needs)
     (λ c. search (request-ways, needs))
     (λ c. search needs)
-    (λ c κs. tt)
+    (λ c. search needs)
+    (λ c. search needs)
+    (λ c. search (request-ways, needs))
+    (λ c. search needs)
+    (λ c κs. search needs)
+    (λ c. search needs)
     (λ c. search needs)
     (λ c. search (request-ways, needs))
     (λ c. search (request-ways, needs)))

@@ -3,7 +3,7 @@ use Rattle.paging.proofs.CodeLaws.{walk-ways}
 use borrow.Author.Needs.{needs}
 use Prim.Native.Nat.{_<_, _^_}
 use mathlib.Core.Path.{_≡_}
-use Rattle.memory.specs.Window.{memory}
+use Rattle.memory.specs.Window.{lent, memory}
 use Rattle.memory.specs.Walk.{run}
 use Rattle.paging_scheme.specs.Scheme.{levelsOf}
 use Rattle.paging.specs.Levels.{levels}
@@ -12,12 +12,12 @@ use Rattle.paging.proofs.guest_descend.Statement.{statement}
 use Rattle.paging.proofs.guest_descend.Tie as tie
 
 abbrev Inv-loop : tie.InvT-loop
-Inv-loop s q g start window root t left₀ table₀ left table =
+Inv-loop s q g starts first second root t left₀ table₀ left table =
     (left < 6) × (table < 2 ^ 44)
-    × (run (memory start window) (levels s q (entryPlace g q) left table) ≡ run (memory start window) (levels s q (entryPlace g q) (levelsOf s) root))
+    × (run (memory (lent starts first second)) (levels s q (entryPlace g q) left table) ≡ run (memory (lent starts first second)) (levels s q (entryPlace g q) (levelsOf s) root))
 
 abbrev μ-loop : tie.MeasureT-loop
-μ-loop s q g start window root t left₀ table₀ left table = left
+μ-loop s q g starts first second root t left₀ table₀ left table = left
 
 pub guest-descend-spec : {M : Type 1} → statement M
 guest-descend-spec =

@@ -1,0 +1,21 @@
+-- `in_windows` meets its contract: one law for each return. Assumes nothing.
+use borrow.Author.Needs.{needs}
+use Rattle.iommu_translation.proofs.Translation.{directory-ways}
+use Rattle.iommu_translation.proofs.in_windows.Statement.{statement}
+use Rattle.iommu_translation.proofs.in_windows.Tie as tie
+
+pub in-windows-spec : {M : Type 1} → statement M
+in-windows-spec =
+    tie.close
+    (tie.spec
+    (λ c. search needs)
+    (λ c κs. tt)
+    (λ c κs. tt)
+    (λ c. search (directory-ways, needs))
+    (λ c κs. search needs)
+    (λ c. search needs)
+    (λ c. search needs)
+    (λ c κs. tt)
+    (λ c. search (directory-ways, needs))
+    (λ c κs. search (directory-ways, needs))
+    (λ c. search (directory-ways, needs)))

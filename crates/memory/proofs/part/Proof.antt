@@ -1,0 +1,20 @@
+use Rattle.memory.proofs.Loads.{part-ways}
+use borrow.Author.Needs.{needs}
+use Rattle.memory.proofs.part.Statement.{statement}
+use Rattle.memory.proofs.part.Tie as tie
+
+pub part-spec : {M : Type 1} → statement M
+part-spec =
+    tie.close
+    (tie.spec
+    (λ c κs. search needs)
+    (λ c. search (part-ways, needs))
+    (λ c. search (part-ways, needs))
+    (λ c. search needs)
+    (λ c. search needs)
+    (λ c. search (part-ways, needs))
+    (λ c. search (part-ways, needs))
+    (λ c. search needs)
+    (λ c. search needs)
+    (λ c. search needs)
+    (λ c. search (part-ways, needs)))
