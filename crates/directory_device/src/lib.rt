@@ -10,7 +10,7 @@ ghost use lib.ListN.{length};
 ghost use Prim.Native.Nat.{_-_, _*_, _%_, _<_, _≤_, _^_};
 ghost use Rattle.memory.specs.Window.{doubleword, lent, memory};
 ghost use Rattle.memory.specs.Walk.{run};
-ghost use Rattle.memory.specs.Code.{Paged};
+ghost use Rattle.memory.specs.Code.{Walkable};
 ghost use Rattle.paging.specs.Stages.{direct};
 ghost use Rattle.directory_walk.specs.Pointers.{leafPlace};
 ghost use Rattle.directory_device.specs.Device.{checkedDevice, deviceContextAt, deviceContextOf};
@@ -62,7 +62,7 @@ fn checked_device(c: DeviceContext) -> DeviceFound
 
 // The context at an address: on whole pages it lies in one window or in none.
 fn device_context_at<'a>(starts: Starts, first: &'a [u8], second: &'a [u8], a: u64) -> DeviceFound
-    requires { ⌜ (a % 64 ≡ 0) × (a < 2 ^ 60) × Paged starts (length (now first)) (length (now second)) ⌝ }
+    requires { ⌜ (a % 64 ≡ 0) × (a < 2 ^ 60) × Walkable starts (length (now first)) (length (now second)) ⌝ }
     ensures { λ r. ⌜ (r ≡ run (memory (lent starts (now (first .entry)) (now (second .entry)))) (deviceContextAt a)) × SoundFound r ⌝ }
 {
     let entry = memory::entry(starts, first, second, a, 64);
@@ -85,7 +85,7 @@ fn device_place<'a>(
     first: &'a [u8],
     second: &'a [u8],
 ) -> Translation
-    requires { ⌜ root < 2 ^ 44 ⌝ }
+    requires { ⌜ (root < 2 ^ 44) × Walkable starts (length (now first)) (length (now second)) ⌝ }
     ensures { λ r. ⌜ (r ≡ run (memory (lent starts (now (first .entry)) (now (second .entry)))) (leafPlace Tree.Device d direct (levels - 1) (root * 4096))) × Placed r ⌝ }
 {
     let mut left = levels;
@@ -115,7 +115,7 @@ pub fn device_context<'a>(
     first: &'a [u8],
     second: &'a [u8],
 ) -> DeviceFound
-    requires { ⌜ (root < 2 ^ 44) × Paged starts (length (now first)) (length (now second)) ⌝ }
+    requires { ⌜ (root < 2 ^ 44) × Walkable starts (length (now first)) (length (now second)) ⌝ }
     ensures { λ r. ⌜ (r ≡ run (memory (lent starts (now (first .entry)) (now (second .entry)))) (deviceContextOf levels root d)) × SoundFound r ⌝ }
 {
     let place = device_place(levels, root, d, starts, first, second);

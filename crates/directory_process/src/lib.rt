@@ -9,9 +9,11 @@ use memory::Starts;
 use paging::PageTable;
 use paging_entry::Translation;
 ghost use mathlib.Core.Path.{_≡_};
+ghost use lib.ListN.{length};
 ghost use Prim.Native.Nat.{_<_, _^_};
 ghost use Rattle.memory.specs.Window.{lent, memory};
 ghost use Rattle.memory.specs.Walk.{run};
+ghost use Rattle.memory.specs.Code.{Walkable};
 ghost use Rattle.directory_context.specs.Code.{SoundContext};
 ghost use Rattle.directory_process.specs.Process.{checkedProcess, processContextAt, processTable, processTooWide, firstTableOf};
 ghost use Rattle.directory_process.specs.Code.{Rooted, wantedOf};
@@ -61,7 +63,7 @@ fn process_context_at<'a>(
     second: &'a [u8],
     a: u64,
 ) -> PageTableInfo
-    requires { ⌜ a < 2 ^ 60 ⌝ }
+    requires { ⌜ (a < 2 ^ 60) × Walkable starts (length (now first)) (length (now second)) ⌝ }
     ensures { λ r. ⌜ (r ≡ run (memory (lent starts (now (first .entry)) (now (second .entry)))) (processContextAt supervisor a)) × Rooted r ⌝ }
 {
     let Load::Value(ta) = memory::load64(starts, first, second, a) else {
@@ -86,7 +88,7 @@ fn process_table<'a>(
     first: &'a [u8],
     second: &'a [u8],
 ) -> PageTableInfo
-    requires { ⌜ SoundContext c ⌝ }
+    requires { ⌜ SoundContext c × Walkable starts (length (now first)) (length (now second)) ⌝ }
     ensures { λ r. ⌜ (r ≡ run (memory (lent starts (now (first .entry)) (now (second .entry)))) (processTable c supervisor x p)) × Rooted r ⌝ }
 {
     if directory_entry::bare(c.fsc) {
@@ -141,7 +143,7 @@ pub fn first_table<'a>(
     first: &'a [u8],
     second: &'a [u8],
 ) -> PageTableInfo
-    requires { ⌜ SoundContext c ⌝ }
+    requires { ⌜ SoundContext c × Walkable starts (length (now first)) (length (now second)) ⌝ }
     ensures { λ r. ⌜ (r ≡ run (memory (lent starts (now (first .entry)) (now (second .entry)))) (firstTableOf c process supervisor x)) × Rooted r ⌝ }
 {
     if !c.pdtv {

@@ -1,16 +1,23 @@
 -- A turn of the walk over non-leaf entries, over plain values. Assumes nothing.
 use Prim.Native.Nat.{ℕ, suc, _+_, _-_, _*_, _<_, _≤_, _^_}
 use native.Mathlib.Omega.{arith}
-use mathlib.Core.Bool.{false}
+use mathlib.Core.Bool.{true, false}
 use mathlib.Core.Path.{_≡_, refl, sym, ap, _∙_, subst}
 use Rattle.memory.specs.declared.Load.{Load}
 use Rattle.memory.specs.Walk.{Walk, run}
 use Rattle.memory.proofs.Walks.{then, loads, at}
 use Rattle.causes.specs.declared.Access.{Access}
+use Rattle.causes.specs.declared.Access.the-variants.{Read}
 use Rattle.causes.specs.declared.FaultInfo.{FaultInfo}
 use Rattle.paging.specs.Stages.{secondStageOf}
-use Rattle.paging.specs.Code.{Within}
+use Rattle.paging.specs.Code.{rawWalk, Within}
 use Rattle.paging.specs.declared.PageTable.{PageTable}
+use Rattle.paging.proofs.CodeLaws.{second-walks, told-within}
+use Rattle.paging_entry.specs.declared.LeafTest.{LeafTest}
+use Rattle.paging_entry.specs.declared.Pages.the-variants.{User}
+use Rattle.paging_entry.specs.declared.Purpose.the-variants.{ProcessEntry}
+use Rattle.paging_entry.specs.declared.Raw.{Raw}
+use Rattle.paging_entry.specs.Code.{testOf, codeOf, toldBy, Tight}
 use Rattle.paging_entry.specs.declared.Translation.{Translation}
 use Rattle.paging_entry.specs.declared.Translation.the-variants.{To, Fault}
 use Rattle.directory_entry.specs.declared.Tree.{Tree}
@@ -27,7 +34,12 @@ place-bare m g x a h = simp h
 pub place-own : (a : ℕ) → a ≤ a + 2 ^ 57
 place-own a = omega arith
 
-pub ruleset place-ways = (place-bare, place-own)
+-- and where it is on, by the number of its walk's end
+pub place-walks : (m : ℕ → Load) (g : PageTable) (x : Access) (a : ℕ) (t : Translation) (l : LeafTest) (n : ℕ) (r : Raw) → g .on ≡ true → l ≡ testOf Read User
+    → r ≡ run m (rawWalk (g .scheme) l a (g .root)) → Tight r → n ≡ codeOf r → t ≡ toldBy ProcessEntry x n → t ≡ run m (guestPlace g x a)
+place-walks m g x a t l n r h hl hr ht hn e = second-walks m g ProcessEntry x a t Read l n r h refl hl hr ht hn e
+
+pub ruleset place-ways = (place-bare, place-own, place-walks, told-within)
 
 one-less : (left : ℕ) → 1 < left → suc (left - 1 - 1) ≡ left - 1
 one-less left p = omega arith

@@ -4,13 +4,16 @@ use causes::FaultInfo;
 use directory_entry::Tree;
 use memory::Starts;
 use paging::PageTable;
+use paging_entry::Pages;
 use paging_entry::Purpose;
 use paging_entry::Translation;
 ghost use mathlib.Core.Path.{_≡_};
 ghost use mathlib.Core.Bool.{false};
 ghost use Prim.Native.Nat.{_-_, _*_, _<_, _^_};
+ghost use lib.ListN.{length};
 ghost use Rattle.memory.specs.Window.{lent, memory};
 ghost use Rattle.memory.specs.Walk.{run};
+ghost use Rattle.memory.specs.Code.{Walkable};
 ghost use Rattle.paging_scheme.specs.Scheme.{signedOf};
 ghost use Rattle.paging.specs.Code.{Within};
 ghost use Rattle.directory_entry.specs.Code.{Below};
@@ -35,11 +38,13 @@ fn place<'a>(
     second: &'a [u8],
     a: u64,
 ) -> Translation
-    requires { ⌜ (g .root < 2 ^ 44) × (signedOf (g .scheme) ≡ false) ⌝ }
+    requires { ⌜ (g .root < 2 ^ 44) × (signedOf (g .scheme) ≡ false) × Walkable starts (length (now first)) (length (now second)) ⌝ }
     ensures { λ r. ⌜ (r ≡ run (memory (lent starts (now (first .entry)) (now (second .entry)))) (guestPlace g x a)) × Within a r ⌝ }
 {
     if g.on {
-        return paging::second_stage(g, Purpose::ProcessEntry, x, starts, first, second, a);
+        let t = paging_entry::leaf_test(Access::Read, Pages::User);
+        let end = paging::guest_walk(g, t, starts, first, second, a);
+        return paging_entry::told(Purpose::ProcessEntry, x, end);
     }
     Translation::To(a)
 }
@@ -56,7 +61,7 @@ pub fn leaf_place<'a>(
     first: &'a [u8],
     second: &'a [u8],
 ) -> Translation
-    requires { ⌜ (root < 2 ^ 44) × (g .root < 2 ^ 44) × (signedOf (g .scheme) ≡ false) ⌝ }
+    requires { ⌜ (root < 2 ^ 44) × (g .root < 2 ^ 44) × (signedOf (g .scheme) ≡ false) × Walkable starts (length (now first)) (length (now second)) ⌝ }
     ensures { λ r. ⌜ (r ≡ run (memory (lent starts (now (first .entry)) (now (second .entry)))) (leafPlace t id (guestPlace g x) (levels - 1) (root * 4096))) × Below (2 ^ 60) r ⌝ }
 {
     let mut left = levels;

@@ -1,8 +1,8 @@
 -- A file's place in the window, and one bit of it changed by way of its doubleword. Assumes nothing.
-use Prim.Native.Nat.{ℕ, _+_, _-_, _/_, _%_, _≤_, _<_}
+use Prim.Native.Nat.{ℕ, _+_, _-_, _*_, _/_, _%_, _≤_, _<_}
 use mathlib.Core.Bool.{Bool, true, false}
 use mathlib.Core.List.{List}
-use mathlib.Core.Path.{_≡_, refl, ap, _∙_}
+use mathlib.Core.Path.{_≡_, refl, sym, ap, _∙_}
 use native.Mathlib.Omega.{arith}
 use borrow.Author.Tests.{eqb-true, leb-true, eq-eqb, ne-eqb, le-leb}
 use borrow.Rule.Slice.PartMut.{midOf, putMid, set-mid-at}
@@ -10,6 +10,7 @@ use lib.ListN.{length, getD, set, length-take, length-drop}
 use lib.Seq.{getD-drop, getD-take}
 use Rattle.memory.specs.Window.{inside}
 use Rattle.memory.proofs.Truth.{and-true}
+use Rattle.memory.proofs.Pages.{whole}
 use Rattle.interrupt_file.specs.Bit.{bitAt, withBit, withoutBit}
 use Rattle.interrupt_file.specs.File.{isFile, placeOf, pendingOf, afterStore, afterTake}
 
@@ -44,9 +45,13 @@ pub off-place : (start len file : ℕ) → (file % 512 ≡ 0 → ⊥) → false 
 unfolding isFile
 off-place start len file h = simp (ne-eqb (file % 512) 0 h)
 
-pub in-place : (start len file : ℕ) (b : Bool) → file % 512 ≡ 0 → b ≡ inside start len file 512 → b ≡ isFile start len file
+pub in-place : (start len file : ℕ) (b : Bool) → start % 4096 ≡ 0 → len % 4096 ≡ 0 → file % 512 ≡ 0 → b ≡ inside start len file 1 → b ≡ isFile start len file
 unfolding isFile
-in-place start len file b h e = simp (eq-eqb (file % 512) 0 h) e
+in-place start len file b hs hl h e =
+    let f : file ≡ 512 * (file / 512) = omega arith in
+    let g : file ≡ 512 * (file / 512) + 0 = omega arith in
+    simp (eq-eqb (file % 512) 0 h)
+    (e ∙ ap (λ (k : ℕ). inside start len k 1) g ∙ whole 512 8 refl start len (file / 512) 0 1 hs hl (omega arith) (omega arith) ∙ ap (λ (k : ℕ). inside start len k 512) (sym f))
 
 pub ruleset file-ways = (off-place, in-place)
 

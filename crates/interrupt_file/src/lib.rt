@@ -1,7 +1,7 @@
 // Interrupt files in lent memory.
 ghost use mathlib.Core.Bool.{true};
 ghost use mathlib.Core.Path.{_≡_};
-ghost use Prim.Native.Nat.{_+_, _/_, _%_, _≤_, _<_};
+ghost use Prim.Native.Nat.{_+_, _/_, _%_, _^_, _≤_, _<_};
 ghost use lib.Count.{ones as onesOf};
 ghost use lib.ListN.{length, getD, set};
 ghost use Rattle.interrupt_file.specs.Bit.{bitAt, withBit, withoutBit};
@@ -21,14 +21,15 @@ pub struct Report {
     pub pairs: [Pair; 32],
 }
 
-// Whether an address is that of a file that lies whole in a window.
+// Whether an address is that of a file that lies in a window of whole pages: whole where its first byte does.
 pub fn is_file(start: u64, len: u64, file: u64) -> bool
+    requires { ⌜ (start % 4096 ≡ 0) × (len % 4096 ≡ 0) × (start + len ≤ 2 ^ 64) ⌝ }
     ensures { λ r. ⌜ r ≡ isFile start len file ⌝ }
 {
     if file % 512 != 0 {
         return false;
     }
-    memory::holds(start, len, file, 512)
+    memory::within(start, len, file)
 }
 
 // The index of the doubleword that holds an identity's pending bit; the pairs are 16 bytes apart.

@@ -11,7 +11,7 @@ use Rattle.interrupt_file.specs.Report.{fileReport, refusedReport}
 use Rattle.interrupt_file.specs.declared.Report.{Report}
 use Rattle.iommu.proofs.Answers.{answered}
 use Rattle.iommu_refusals.specs.Refusals.{isLentFile, takeRefusal, reportRefusal}
-use Rattle.iommu_refusals.proofs.Bounds.{passed, stopped, take-lent, take-identity, in-second, report-lent, file-bytes}
+use Rattle.iommu_refusals.proofs.Bounds.{passed, stopped, take-lent, take-identity, take-walkable, in-second, report-lent, file-bytes}
 use Rattle.iommu.specs.declared.Answer.the-variants.{Refused, Taken}
 use Rattle.iommu.specs.Files.{changedAt, pendingAt, takenAt, takeOf, afterTakeOf, reportOf}
 
@@ -48,7 +48,7 @@ module _ (starts : Starts) (xs ys : List ℕ) (file n r : ℕ) (h : r ≡ takeRe
     unfolding afterTakeOf
     take-left us vs k = left-same (takenAt starts xs ys file n) _ us vs (passed _ (λ i. lent starts xs ys) _ _ (sym h ∙ z) refl) k
 
-pub ruleset take-ways = (answered, take-refused, take-kept, take-made, take-left, take-lent, take-identity)
+pub ruleset take-ways = (answered, take-refused, take-kept, take-made, take-left, take-lent, take-identity, take-walkable)
 
 -- in whichever window
 module _ (starts : Starts) (xs ys : List ℕ) (file n : ℕ) (b : Bool) (hb : b ≡ isFile (starts .first) (length xs) file) where

@@ -25,7 +25,7 @@ use Rattle.iommu_translation.specs.Translate.{translateOf}
 use Rattle.causes.specs.Causes.{isWrite}
 use Rattle.iommu.specs.Request.{reversed, identityOf, storableAs, finish, storedAt, storedBy, requestOf, afterRequest}
 use Rattle.iommu.proofs.Answers.{answered}
-use Rattle.iommu_refusals.proofs.Bounds.{passed, stopped, accepted-mode, accepted-root, accepted-paged, accepted-apart}
+use Rattle.iommu_refusals.proofs.Bounds.{passed, stopped, accepted-mode, accepted-root, accepted-walkable}
 use Rattle.iommu.specs.Code.{storedIf}
 use Rattle.iommu.proofs.Files.{changed-first, changed-second, unchanged, left-same, file-is}
 
@@ -195,4 +195,4 @@ module _ (s : Settings) (xs ys : List ℕ) (q : DeviceRequest) (value r : ℕ) (
         left-same (storedBy (s .starts) xs ys q value a) (storedBy (s .starts) xs ys q value answer) us vs
         (ap (storedBy (s .starts) xs ys q value) (request-finishes p a e h)) k
 
-pub ruleset request-ways = (answered, request-refused, refused-bytes, request-finishes, request-bytes, request-translates, request-redirects, request-faults, translated-bytes, redirected-bytes, faulted-bytes, accepted-mode, accepted-root, accepted-paged, accepted-apart)
+pub ruleset request-ways = (answered, request-refused, refused-bytes, request-finishes, request-bytes, request-translates, request-redirects, request-faults, translated-bytes, redirected-bytes, faulted-bytes, accepted-mode, accepted-root, accepted-walkable)

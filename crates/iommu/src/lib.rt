@@ -8,10 +8,11 @@ use memory::Starts;
 use message::Destination;
 ghost use mathlib.Core.Path.{_≡_};
 ghost use mathlib.Core.Bool.{true};
-ghost use Prim.Native.Nat.{_<_};
+ghost use Prim.Native.Nat.{_+_, _%_, _^_, _≤_, _<_};
 ghost use lib.ListN.{length};
 ghost use Rattle.memory.specs.Choice.{pick};
 ghost use Rattle.memory.specs.Window.{Leaves};
+ghost use Rattle.memory.specs.Code.{Walkable};
 ghost use Rattle.interrupt_file.specs.File.{isFile, afterStore};
 ghost use Rattle.iommu.specs.Answers.{numbers as numbersBy, numbersOf, Answered};
 ghost use Rattle.iommu.specs.Request.{reversed as reversedOf, identityOf, storableAs, finish as finishOf, storedBy, requestOf, afterRequest};
@@ -71,7 +72,7 @@ fn numbered(kind: u64, first: u64) -> Numbers
 
 // Clears the pending bit of a file's identity in whichever window holds the file, and gives what it was.
 fn take_lent(starts: Starts, first: &mut [u8], second: &mut [u8], file: u64, identity: u64) -> u64
-    requires { ⌜ (isLentFile starts (length (now first)) (length (now second)) file ≡ true) × (identity < 2048) ⌝ }
+    requires { ⌜ (isLentFile starts (length (now first)) (length (now second)) file ≡ true) × (identity < 2048) × Walkable starts (length (now first)) (length (now second)) ⌝ }
     ensures answer { λ r. ⌜ r ≡ pendingAt starts (now (first .entry)) (now (second .entry)) file identity ⌝ }
     ensures bytes { λ _. ⌜ Leaves (takenAt starts (now (first .entry)) (now (second .entry)) file identity) (now (first .exit)) (now (second .exit)) ⌝ }
 {
@@ -147,7 +148,7 @@ fn storable(q: DeviceRequest, n: u64) -> bool
 
 // Makes an identity of a file pending where a window holds the file, and says whether it does.
 fn store_in(start: u64, window: &mut [u8], file: u64, n: u64) -> bool
-    requires { ⌜ n < 2048 ⌝ }
+    requires { ⌜ (n < 2048) × (start % 4096 ≡ 0) × (length (now window) % 4096 ≡ 0) × (start + length (now window) ≤ 2 ^ 64) ⌝ }
     ensures answer { λ r. ⌜ r ≡ isFile start (length (now (window .entry))) file ⌝ }
     ensures bytes { λ r. ⌜ now (window .exit) ≡ pick r (afterStore start (now (window .entry)) file n) (now (window .entry)) ⌝ }
 {
@@ -160,7 +161,7 @@ fn store_in(start: u64, window: &mut [u8], file: u64, n: u64) -> bool
 
 // The same in whichever window holds it.
 fn store_lent(starts: Starts, first: &mut [u8], second: &mut [u8], file: u64, n: u64) -> bool
-    requires { ⌜ n < 2048 ⌝ }
+    requires { ⌜ (n < 2048) × Walkable starts (length (now first)) (length (now second)) ⌝ }
     ensures answer { λ r. ⌜ r ≡ isLentFile starts (length (now (first .entry))) (length (now (second .entry))) file ⌝ }
     ensures bytes { λ r. ⌜ Leaves (storedIf r starts (now (first .entry)) (now (second .entry)) file n) (now (first .exit)) (now (second .exit)) ⌝ }
 {
@@ -179,6 +180,7 @@ fn record_message(
     value: u32,
     d: Destination,
 ) -> Answer
+    requires { ⌜ Walkable starts (length (now first)) (length (now second)) ⌝ }
     ensures answer { λ r. ⌜ r ≡ finishOf starts (length (now (first .entry))) (length (now (second .entry))) q value (Outcome.Recorded d) ⌝ }
     ensures bytes { λ r. ⌜ Leaves (storedBy starts (now (first .entry)) (now (second .entry)) q value r) (now (first .exit)) (now (second .exit)) ⌝ }
 {

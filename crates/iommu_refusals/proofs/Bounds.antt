@@ -7,13 +7,13 @@ use native.Mathlib.Omega.{arith}
 use lib.Dec.{eqb}
 use lib.ListN.{length}
 use Rattle.memory.specs.Choice.{unlessRefused}
-use Rattle.memory.specs.Code.{Paged}
+use Rattle.memory.specs.Code.{Walkable}
 use Rattle.memory.specs.declared.Starts.{Starts}
 use Rattle.memory.specs.Window.{inside, lent, partOf}
 use Rattle.memory.proofs.Loads.{part-long-first, part-long-second}
 use Rattle.interrupt_file.specs.File.{isFile}
 use Rattle.iommu_refusals.specs.declared.Settings.{Settings}
-use Rattle.iommu_refusals.specs.Refusals.{overlap, isLentFile}
+use Rattle.iommu_refusals.specs.Refusals.{isLentFile}
 use Rattle.iommu_refusals.specs.Code.{Accepted, Takeable, Reportable}
 
 -- what a number of the checks gives
@@ -38,11 +38,8 @@ module _ (s : Settings) (n m r : ℕ) (h : Accepted s n m r) (z : r ≡ 0) where
   pub accepted-root : s .root < 2 ^ 44
   accepted-root = all .1
 
-  pub accepted-paged : Paged (s .starts) n m
-  accepted-paged = all .2
-
-  pub accepted-apart : overlap (s .starts) n m ≡ false
-  accepted-apart = all .3
+  pub accepted-walkable : Walkable (s .starts) n m
+  accepted-walkable = all .2
 
 -- a file that is in either window and not in the first is in the second
 pub in-second : (starts : Starts) (n m file : ℕ) (b : Bool) → isLentFile starts n m file ≡ true → b ≡ isFile (starts .first) n file → b ≡ false
@@ -56,6 +53,9 @@ module _ (starts : Starts) (n m file i r : ℕ) (h : Takeable starts n m file i 
 
   pub take-identity : i < 2048
   take-identity = subst (Takeable starts n m file i) z h .1
+
+  pub take-walkable : Walkable starts n m
+  take-walkable = subst (Takeable starts n m file i) z h .2
 
 -- a report
 pub report-lent : (starts : Starts) (n m file r : ℕ) → Reportable starts n m file r → r ≡ 0 → isLentFile starts n m file ≡ true

@@ -1,3 +1,3 @@
+pub mod Overlap
 pub mod Refusals
 pub mod Bounds
-pub mod Overlap

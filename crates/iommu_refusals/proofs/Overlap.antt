@@ -9,7 +9,7 @@ use lib.Dec.{eqb, leb, ltb}
 use Rattle.memory.specs.declared.Starts.{Starts}
 use Rattle.memory.specs.Window.{inside}
 use Rattle.memory.proofs.Truth.{and-true}
-use Rattle.memory.proofs.Order.{Disjoint}
+use Rattle.memory.specs.Code.{Disjoint}
 use Rattle.iommu_refusals.specs.Refusals.{overlap}
 
 module _ (starts : Starts) (n m : ℕ) where

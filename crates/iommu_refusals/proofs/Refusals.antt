@@ -5,18 +5,19 @@ use mathlib.Core.List.{[], _∷_}
 use mathlib.Core.Path.{_≡_, refl, sym, ap, ap₂, subst, _∙_}
 use native.Mathlib.Omega.{arith}
 use lib.Dec.{eqb, leb, ltb}
-use borrow.Author.Tests.{ne-eqb, eqb-true, eqb-false, lt-ltb, le-ltb, ltb-false, leb-false}
+use borrow.Author.Tests.{ne-eqb, eqb-true, eqb-false, lt-ltb, le-ltb, ltb-false, leb-true, leb-false}
 use Rattle.memory.specs.Choice.{pick, firstBad}
-use Rattle.memory.specs.Code.{Paged}
+use Rattle.memory.specs.Code.{Paged, Walkable}
 use Rattle.memory.specs.declared.Starts.{Starts}
 use Rattle.memory.proofs.Choices.{ltb-same}
 use Rattle.directory_process.specs.declared.ProcessId.{ProcessId}
 use Rattle.directory_process.specs.declared.ProcessId.the-variants.{Absent, Given}
 use Rattle.interrupt_file.specs.File.{isFile}
+use Rattle.iommu_refusals.proofs.Overlap.{apart-words}
 use Rattle.iommu_refusals.specs.declared.Settings.{Settings}
 use Rattle.iommu_refusals.specs.declared.DeviceRequest.{DeviceRequest}
 use Rattle.iommu_refusals.specs.Refusals.{check, badWindow, badWindows, overlap, isLentFile, badDirectory, badProcess, absent, badLength, requestRefusal, takeRefusal, reportRefusal}
-use Rattle.iommu_refusals.specs.Code.{offPages, windowRefusal, Whole, Accepted, Takeable, Reportable}
+use Rattle.iommu_refusals.specs.Code.{offPages, tooLarge, windowRefusal, Whole, Accepted, Takeable, Reportable}
 
 -- a number that the code gives is the definition's
 pub is-number : {n r : ℕ} (k : ℕ) → k ≡ r → n ≡ k → n ≡ r
@@ -49,76 +50,132 @@ neither false false true d x y h = absurd (true-false h)
 neither false true c d x y h = absurd (true-false h)
 neither true b c d x y h = absurd (true-false h)
 
-pub high-start : (start len : ℕ) → 72057594037927936 < start → true ≡ ltb (2 ^ 56) (start + len)
-high-start start len k = sym (lt-ltb (2 ^ 56) (start + len) (omega arith))
+-- 2001: what is too large is too high
+high : (start len : ℕ) → 2 ^ 56 < start + len → ltb (2 ^ 56) (start + len) ≡ true
+high start len h = lt-ltb (2 ^ 56) (start + len) h
 
-pub high-end : (start len : ℕ) → start ≤ 72057594037927936 → ltb (72057594037927936 - start) len ≡ ltb (2 ^ 56) (start + len)
-high-end start len k = ltb-same (72057594037927936 - start) len (2 ^ 56) (start + len) (λ x. omega arith) (λ x. omega arith)
-
-module _ (starts : Starts) (n m : ℕ) (b : Bool) (hb : b ≡ offPages starts n m) where
+module _ (starts : Starts) (n m : ℕ) where
   abbrev off : ℕ → Bool
   off x = not (eqb (x % 4096) 0)
 
-  pub windows-off : b ≡ true → true ≡ badWindows starts n m
+  bad-ends : (x y : Bool) → ltb (2 ^ 56) (starts .first + n) ≡ x → ltb (2 ^ 56) (starts .second + m) ≡ y → (x || y) ≡ true → true ≡ badWindows starts n m
   unfolding badWindow
-  windows-off t =
-      either (off (starts .first)) (off n) (off (starts .second)) (off m) (ltb (2 ^ 56) (starts .first + n)) (ltb (2 ^ 56) (starts .second + m)) (sym hb ∙ t)
+  bad-ends x y e f h = go (off (starts .first)) (off n) (off (starts .second)) (off m) x y h ∙ ap₂ (λ p q. (off (starts .first) || (off n || p)) || (off (starts .second) || (off m || q))) (sym e) (sym f)
+    where
+      go : (a b c d x y : Bool) → (x || y) ≡ true → true ≡ ((a || (b || x)) || (c || (d || y)))
+      go true b c d x y h = refl
+      go false true c d x y h = refl
+      go false false c d true y h = refl
+      go false false true d false true h = refl
+      go false false false true false true h = refl
+      go false false false false false true h = refl
+      go false false c d false false h = absurd (true-false (sym h))
 
-  pub windows-high : (x y : Bool) → b ≡ false → x ≡ ltb (2 ^ 56) (starts .first + n) → y ≡ ltb (2 ^ 56) (starts .second + m) → (x || y) ≡ badWindows starts n m
-  unfolding badWindow
-  windows-high x y t hx hy =
-      ap₂ (λ p q. p || q) hx hy
-      ∙ neither (off (starts .first)) (off n) (off (starts .second)) (off m) (ltb (2 ^ 56) (starts .first + n)) (ltb (2 ^ 56) (starts .second + m)) (sym hb ∙ t)
+  large : tooLarge starts n m ≡ true → true ≡ badWindows starts n m
+  large h =
+      go (leb (2 ^ 57) (starts .first)) (leb (2 ^ 57) n) (leb (2 ^ 57) (starts .second)) (leb (2 ^ 57) m) refl refl refl refl h
+    where
+      one : 2 ^ 56 < starts .first + n → true ≡ badWindows starts n m
+      one k = bad-ends true _ (high (starts .first) n k) refl refl
 
-pub ruleset window-ways = (high-start, high-end, windows-off, windows-high)
+      two : 2 ^ 56 < starts .second + m → true ≡ badWindows starts n m
+      two k = bad-ends _ true refl (high (starts .second) m k) (or-true (ltb (2 ^ 56) (starts .first + n)))
+        where
+          or-true : (b : Bool) → (b || true) ≡ true
+          or-true true = refl
+          or-true false = refl
+
+      go : (p q r s : Bool) → leb (2 ^ 57) (starts .first) ≡ p → leb (2 ^ 57) n ≡ q → leb (2 ^ 57) (starts .second) ≡ r → leb (2 ^ 57) m ≡ s → (((p || q) || r) || s) ≡ true → true ≡ badWindows starts n m
+      go true q r s e f g i z = one (let k = leb-true (2 ^ 57) (starts .first) e in omega arith)
+      go false true r s e f g i z = one (let k = leb-true (2 ^ 57) n f in omega arith)
+      go false false true s e f g i z = two (let k = leb-true (2 ^ 57) (starts .second) g in omega arith)
+      go false false false true e f g i z = two (let k = leb-true (2 ^ 57) m i in omega arith)
+      go false false false false e f g i z = absurd (true-false (sym z))
+
+  -- the first test, of pages and of sizes
+  module _ (a b : Bool) (ha : a ≡ offPages starts n m) (hb : b ≡ tooLarge starts n m) where
+    pub windows-off : (a || b) ≡ true → true ≡ badWindows starts n m
+    unfolding badWindow
+    windows-off t = go a b ha hb t
+      where
+        go : (p q : Bool) → p ≡ offPages starts n m → q ≡ tooLarge starts n m → (p || q) ≡ true → true ≡ badWindows starts n m
+        go true q e f z =
+            either (off (starts .first)) (off n) (off (starts .second)) (off m) (ltb (2 ^ 56) (starts .first + n)) (ltb (2 ^ 56) (starts .second + m)) (sym e)
+        go false true e f z = large (sym f)
+        go false false e f z = absurd (true-false (sym z))
+
+    module _ (t : (a || b) ≡ false) where
+      both-false : (p q : Bool) → (p || q) ≡ false → (p ≡ false) × (q ≡ false)
+      both-false false false z = (refl, refl)
+      both-false false true z = absurd (true-false z)
+      both-false true q z = absurd (true-false z)
+
+      pub windows-high : (ltb 72057594037927936 (starts .first + n) || ltb 72057594037927936 (starts .second + m)) ≡ badWindows starts n m
+      unfolding badWindow
+      windows-high =
+          neither (off (starts .first)) (off n) (off (starts .second)) (off m) (ltb (2 ^ 56) (starts .first + n)) (ltb (2 ^ 56) (starts .second + m))
+          (sym ha ∙ both-false a b t .0)
+
+      sums : (starts .first + n < 2 ^ 64) × (starts .second + m < 2 ^ 64)
+      sums = go (leb (2 ^ 57) (starts .first)) (leb (2 ^ 57) n) (leb (2 ^ 57) (starts .second)) (leb (2 ^ 57) m) refl refl refl refl (sym hb ∙ both-false a b t .1)
+        where
+          go : (p q r s : Bool) → leb (2 ^ 57) (starts .first) ≡ p → leb (2 ^ 57) n ≡ q → leb (2 ^ 57) (starts .second) ≡ r → leb (2 ^ 57) m ≡ s → (((p || q) || r) || s) ≡ false
+              → (starts .first + n < 2 ^ 64) × (starts .second + m < 2 ^ 64)
+          go false false false false e f g i z =
+              let k = leb-false (2 ^ 57) (starts .first) e in
+              let l = leb-false (2 ^ 57) n f in
+              let u = leb-false (2 ^ 57) (starts .second) g in
+              let v = leb-false (2 ^ 57) m i in
+              (omega arith, omega arith)
+          go false false false true e f g i z = absurd (true-false z)
+          go false false true s e f g i z = absurd (true-false z)
+          go false true r s e f g i z = absurd (true-false z)
+          go true q r s e f g i z = absurd (true-false z)
+
+      pub first-sum : starts .first + n < 2 ^ 64
+      first-sum = sums .0
+
+      pub second-sum : starts .second + m < 2 ^ 64
+      second-sum = sums .1
+
+pub ruleset window-ways = (windows-off, windows-high, first-sum, second-sum)
 
 pos : (x : ℕ) → (x ≡ 0 → ⊥) → 0 < x
 pos zero h = absurd (h refl)
 pos (suc x) h = omega arith
 
-and-yes : (b : Bool) → b ≡ (b && true)
-and-yes true = refl
-and-yes false = refl
+-- 2011: by both starts and both ends
+pub overlap-is : (starts : Starts) (n m : ℕ)
+    → (((ltb (starts .first) (starts .first + n) && ltb (starts .first) (starts .second + m)) && ltb (starts .second) (starts .first + n)) && ltb (starts .second) (starts .second + m)) ≡ overlap starts n m
+unfolding overlap
+overlap-is starts n m = go (eqb n 0) (eqb m 0) refl refl
+  where
+    before : Bool
+    before = ltb (starts .first) (starts .second + m)
 
--- 2011: the one that starts later starts in the other
-module _ (starts : Starts) (n m : ℕ) where
-  pub overlap-empty : (eqb n 0 || eqb m 0) ≡ true → false ≡ overlap starts n m
-  unfolding overlap
-  overlap-empty h = go (eqb n 0) (eqb m 0) (ltb (starts .first) (starts .second + m) && ltb (starts .second) (starts .first + n)) h
-    where
-      go : (p q r : Bool) → (p || q) ≡ true → false ≡ (not p && (not q && r))
-      go true q r e = refl
-      go false true r e = refl
-      go false false r e = absurd (true-false (sym e))
+    after : Bool
+    after = ltb (starts .second) (starts .first + n)
 
-  module _ (h : (eqb n 0 || eqb m 0) ≡ false) where
-    full : (p q : Bool) → (p || q) ≡ false → (p ≡ false) × (q ≡ false)
-    full false false e = (refl, refl)
-    full false true e = absurd (true-false e)
-    full true q e = absurd (true-false e)
+    and-none : (p q r : Bool) → (((false && p) && q) && r) ≡ false
+    and-none p q r = refl
 
-    tests : {r : Bool} → r ≡ (ltb (starts .first) (starts .second + m) && ltb (starts .second) (starts .first + n)) → r ≡ overlap starts n m
-    unfolding overlap
-    tests e = let f = full (eqb n 0) (eqb m 0) h in simp (f .0, f .1) e
+    and-last : (p : Bool) → (p && false) ≡ false
+    and-last true = refl
+    and-last false = refl
 
-    pub overlap-later : starts .first ≤ starts .second → ltb (starts .second - starts .first) n ≡ overlap starts n m
-    overlap-later k =
-        let z = eqb-false m 0 (full (eqb n 0) (eqb m 0) h .1) in
-        let some : 0 < m = pos m z in
-        tests
-        (simp (lt-ltb (starts .first) (starts .second + m) (omega arith))
-        (ltb-same (starts .second - starts .first) n (starts .second) (starts .first + n) (λ x. omega arith) (λ x. omega arith)))
+    and-yes : (p q : Bool) → (((true && p) && q) && true) ≡ (p && q)
+    and-yes true true = refl
+    and-yes true false = refl
+    and-yes false q = refl
 
-    pub overlap-sooner : starts .second < starts .first → ltb (starts .first - starts .second) m ≡ overlap starts n m
-    overlap-sooner k =
-        let z = eqb-false n 0 (full (eqb n 0) (eqb m 0) h .0) in
-        let some : 0 < n = pos n z in
-        tests
-        (simp (lt-ltb (starts .second) (starts .first + n) (omega arith))
-        (ltb-same (starts .first - starts .second) m (starts .first) (starts .second + m) (λ x. omega arith) (λ x. omega arith)
-        ∙ and-yes (ltb (starts .first) (starts .second + m))))
-
-pub ruleset overlap-ways = (overlap-empty, overlap-later, overlap-sooner)
+    go : (p q : Bool) → eqb n 0 ≡ p → eqb m 0 ≡ q
+        → (((ltb (starts .first) (starts .first + n) && before) && after) && ltb (starts .second) (starts .second + m)) ≡ (not p && (not q && (before && after)))
+    go true q e f = let z = eqb-true n 0 e in simp (le-ltb (starts .first) (starts .first + n) (omega arith))
+    go false true e f = let z = eqb-true m 0 f in simp (le-ltb (starts .second) (starts .second + m) (omega arith)) (and-last ((ltb (starts .first) (starts .first + n) && before) && after))
+    go false false e f =
+        let y = pos n (eqb-false n 0 e) in
+        let z = pos m (eqb-false m 0 f) in
+        simp (lt-ltb (starts .first) (starts .first + n) (omega arith), lt-ltb (starts .second) (starts .second + m) (omega arith)) (and-yes before after)
 
 -- the checks that all calls begin with
 module _ (starts : Starts) (n m : ℕ) (b : Bool) (hb : b ≡ badWindows starts n m) where
@@ -135,27 +192,40 @@ module _ (starts : Starts) (n m : ℕ) (b : Bool) (hb : b ≡ badWindows starts 
     unfolding windowRefusal
     window-passes t = simp (← hb, o, ← hv, t)
 
-  pub window-paged : b ≡ false → Paged starts n m
+  -- what a walk may go through
+  whole-pages : (p q r s x y : Bool) → eqb (starts .first % 4096) 0 ≡ p → eqb (n % 4096) 0 ≡ q → eqb (starts .second % 4096) 0 ≡ r → eqb (m % 4096) 0 ≡ s
+      → ltb (2 ^ 56) (starts .first + n) ≡ x → ltb (2 ^ 56) (starts .second + m) ≡ y → ((not p || (not q || x)) || (not r || (not s || y))) ≡ false
+      → Paged starts n m × (starts .first + n ≤ 2 ^ 56) × (starts .second + m ≤ 2 ^ 56)
+  whole-pages true true true true false false e f g h i j z =
+      ((eqb-true _ _ e, eqb-true _ _ f, eqb-true _ _ g, eqb-true _ _ h), ltb-false _ _ i, ltb-false _ _ j)
+  whole-pages false q r s x y e f g h i j z = absurd (true-false z)
+  whole-pages true false r s x y e f g h i j z = absurd (true-false z)
+  whole-pages true true r s true y e f g h i j z = absurd (true-false z)
+  whole-pages true true false s false y e f g h i j z = absurd (true-false z)
+  whole-pages true true true false false y e f g h i j z = absurd (true-false z)
+  whole-pages true true true true false true e f g h i j z = absurd (true-false z)
+
+  good : b ≡ false → Paged starts n m × (starts .first + n ≤ 2 ^ 56) × (starts .second + m ≤ 2 ^ 56)
   unfolding badWindow
-  window-paged t =
-      go (eqb (starts .first % 4096) 0) (eqb (n % 4096) 0) (eqb (starts .second % 4096) 0) (eqb (m % 4096) 0) (ltb (2 ^ 56) (starts .first + n))
-      (ltb (2 ^ 56) (starts .second + m)) refl refl refl refl (sym hb ∙ t)
-    where
-      go : (p q r s x y : Bool) → eqb (starts .first % 4096) 0 ≡ p → eqb (n % 4096) 0 ≡ q → eqb (starts .second % 4096) 0 ≡ r → eqb (m % 4096) 0 ≡ s
-          → ((not p || (not q || x)) || (not r || (not s || y))) ≡ false → Paged starts n m
-      go true true true true x y e f g h z = (eqb-true _ _ e, eqb-true _ _ f, eqb-true _ _ g, eqb-true _ _ h)
-      go false q r s x y e f g h z = absurd (true-false z)
-      go true false r s x y e f g h z = absurd (true-false z)
-      go true true false s true y e f g h z = absurd (true-false z)
-      go true true false s false y e f g h z = absurd (true-false z)
-      go true true true false true y e f g h z = absurd (true-false z)
-      go true true true false false y e f g h z = absurd (true-false z)
+  good t = whole-pages _ _ _ _ _ _ refl refl refl refl refl refl (sym hb ∙ t)
 
--- a flag is what it is of
-pub windows-clear : (starts : Starts) (n m : ℕ) (v : Bool) → v ≡ overlap starts n m → v ≡ false → overlap starts n m ≡ false
-windows-clear starts n m v h t = sym h ∙ t
+  pub first-fits : b ≡ false → starts .first + n < 2 ^ 64
+  first-fits t = let g = good t .1 in omega arith
 
-pub ruleset windows-checks = (window-2001, window-2011, window-passes, window-paged, windows-clear)
+  pub second-fits : b ≡ false → starts .second + m < 2 ^ 64
+  second-fits t = let g = good t .2 in omega arith
+
+  pub window-walkable : (v : Bool) → b ≡ false → v ≡ overlap starts n m → v ≡ false → Walkable starts n m
+  window-walkable v t hv o =
+      let g = good t in
+      record {
+        paged = g .0;
+        firstEnd = let e = g .1 in omega arith;
+        secondEnd = let e = g .2 in omega arith;
+        apart = apart-words starts n m (sym hv ∙ o);
+      }
+
+pub ruleset windows-checks = (window-2001, window-2011, window-passes, first-fits, second-fits, window-walkable)
 
 -- what their number says of both
 module _ (starts : Starts) (n m w : ℕ) (hw : w ≡ windowRefusal starts n m) where
@@ -234,11 +304,8 @@ module _ (s : Settings) (n m : ℕ) (q : DeviceRequest) (w : ℕ) (hw : w ≡ wi
             not-refused o6 = let good = windows-good (s .starts) n m w hw z in simp (good .0, good .1, ← h2, o2, ← h3, o3, ← h4, o4, ← h5, o5, ← h6, o6)
 
 module _ (s : Settings) (n m w : ℕ) (h : Whole (s .starts) n m w) (z : w ≡ 0) where
-  pub request-paged : Paged (s .starts) n m
-  request-paged = subst (Whole (s .starts) n m) z h .0
-
-  pub request-apart : overlap (s .starts) n m ≡ false
-  request-apart = subst (Whole (s .starts) n m) z h .1
+  pub request-walkable : Walkable (s .starts) n m
+  request-walkable = subst (Whole (s .starts) n m) z h
 
 accepted : (s : Settings) (b : Bool) → b ≡ badDirectory (s .mode) (s .root) → b ≡ false → (s .mode < 5) × (s .root < 2 ^ 44)
 accepted s b h o = go (ltb 4 (s .mode)) (leb (2 ^ 44) (s .root)) refl refl (sym h ∙ o)
@@ -258,7 +325,10 @@ pub unaccepted : (s : Settings) (n m w : ℕ) → (w ≡ 0 → ⊥) → Accepted
 unaccepted s n m zero z = absurd (z refl)
 unaccepted s n m (suc w) z = tt
 
-pub ruleset request-checks = (refused-windows, unaccepted, request-paged, request-apart, refused-2002, refused-2003, refused-2004, refused-2005, refused-2006, not-refused, checked-mode, checked-root)
+pub ruleset request-checks = (refused-windows, unaccepted, request-walkable, refused-2002, refused-2003, refused-2004, refused-2005, refused-2006, not-refused, checked-mode, checked-root)
+
+pub files-walkable : (starts : Starts) (n m w : ℕ) → Whole starts n m w → w ≡ 0 → Walkable starts n m
+files-walkable starts n m w h z = subst (Whole starts n m) z h
 
 -- a take's and a report's checks in order
 module _ (starts : Starts) (n m file i w : ℕ) (hw : w ≡ windowRefusal starts n m) where
@@ -316,4 +386,4 @@ unreportable starts n m file zero z = absurd (z refl)
 unreportable starts n m file (suc w) z = tt
 
 pub ruleset file-checks =
-    (untakeable, unreportable, take-windows, take-2008, take-2009, take-passes, report-windows, report-2008, report-passes, is-a-file, is-identity)
+    (untakeable, unreportable, files-walkable, take-windows, take-2008, take-2009, take-passes, report-windows, report-2008, report-passes, is-a-file, is-identity)

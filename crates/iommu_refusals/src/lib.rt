@@ -4,10 +4,11 @@ use directory_process::ProcessId;
 use memory::Starts;
 ghost use mathlib.Core.Path.{_≡_};
 ghost use mathlib.Core.Bool.{_&&_};
-ghost use lib.Dec.{leb, ltb};
-ghost use Prim.Native.Nat.{_+_, _^_};
+ghost use lib.Dec.{leb};
+ghost use Prim.Native.Nat.{_+_, _^_, _<_};
+ghost use Rattle.memory.specs.Code.{Walkable};
 ghost use Rattle.iommu_refusals.specs.Refusals.{badWindows, overlap, isLentFile, badDirectory, badProcess, absent, badLength, requestRefusal, takeRefusal, reportRefusal};
-ghost use Rattle.iommu_refusals.specs.Code.{offPages, windowRefusal, Whole, Accepted, Takeable, Reportable};
+ghost use Rattle.iommu_refusals.specs.Code.{offPages, tooLarge, windowRefusal, Whole, Accepted, Takeable, Reportable};
 
 // Where the two windows start, and the device directory. A window's length is that of its lent bytes.
 pub struct Settings {
@@ -36,37 +37,34 @@ fn off_pages(starts: Starts, n: u64, m: u64) -> bool
     (starts.first % 4096 != 0) | (n % 4096 != 0) | (starts.second % 4096 != 0) | (m % 4096 != 0)
 }
 
-// A window that ends above 2^56.
-fn too_high(start: u64, len: u64) -> bool
-    ensures { λ r. ⌜ r ≡ ltb (2 ^ 56) (start + len) ⌝ }
+// A start or a length so large that a sum might not fit: with the tests above one mask.
+fn too_large(starts: Starts, n: u64, m: u64) -> bool
+    ensures { λ r. ⌜ r ≡ tooLarge starts n m ⌝ }
 {
-    if 72057594037927936 < start {
-        return true;
-    }
-    72057594037927936 - start < len
+    (144115188075855872 <= starts.first)
+        | (144115188075855872 <= n)
+        | (144115188075855872 <= starts.second)
+        | (144115188075855872 <= m)
 }
 
 // 2001: whole pages, all below 2^56, in either window.
 fn bad_windows(starts: Starts, n: u64, m: u64) -> bool
     ensures { λ r. ⌜ r ≡ badWindows starts n m ⌝ }
 {
-    if off_pages(starts, n, m) {
+    if off_pages(starts, n, m) | too_large(starts, n, m) {
         return true;
     }
-    too_high(starts.first, n) | too_high(starts.second, m)
+    (72057594037927936 < starts.first + n) | (72057594037927936 < starts.second + m)
 }
 
-// 2011: the window that starts later starts in the other; an empty one overlaps nothing.
+// 2011: each starts before both end; an empty one ends where it starts.
 fn overlapping(starts: Starts, n: u64, m: u64) -> bool
+    requires { ⌜ (starts .first + n < 2 ^ 64) × (starts .second + m < 2 ^ 64) ⌝ }
     ensures { λ r. ⌜ r ≡ overlap starts n m ⌝ }
 {
-    if (n == 0) | (m == 0) {
-        return false;
-    }
-    if starts.first <= starts.second {
-        return starts.second - starts.first < n;
-    }
-    starts.first - starts.second < m
+    let end = starts.first + n;
+    let other = starts.second + m;
+    (starts.first < end) & (starts.first < other) & (starts.second < end) & (starts.second < other)
 }
 
 // The number of the first check that the windows fail, or 0.
@@ -84,6 +82,7 @@ fn window_refusal(starts: Starts, n: u64, m: u64) -> u64
 
 // Whether an address is that of a file that lies in either window.
 fn is_lent_file(starts: Starts, n: u64, m: u64, file: u64) -> bool
+    requires { ⌜ Walkable starts n m ⌝ }
     ensures { λ r. ⌜ r ≡ isLentFile starts n m file ⌝ }
 {
     if interrupt_file::is_file(starts.first, n, file) {

@@ -2,15 +2,15 @@
 use Prim.Native.Nat.{ℕ, _-_, _<_, _≤_, _^_}
 use mathlib.Core.Bool.{Bool, true, false, _||_}
 use mathlib.Core.List.{List}
-use mathlib.Core.Path.{_≡_, sym, ap, _∙_, subst}
+use mathlib.Core.Path.{_≡_, refl, sym, ap, _∙_, subst}
 use borrow.Author.Tests.{lt-ltb, le-ltb, ne-eqb}
 use lib.ListN.{length}
 use Rattle.memory.specs.Choice.{pick}
 use Rattle.memory.specs.declared.Load.{Load}
 use Rattle.memory.specs.declared.Starts.{Starts}
 use Rattle.memory.specs.Window.{lent, memory}
-use Rattle.memory.specs.Code.{Paged, orderedStarts}
-use Rattle.memory.proofs.Order.{ordered-run, ordered-paged}
+use Rattle.memory.specs.Code.{Walkable, orderedStarts}
+use Rattle.memory.proofs.Order.{ordered-run, ordered-walkable}
 use Rattle.memory.specs.Walk.{done, run}
 use Rattle.memory.proofs.Walks.{run-bind, then, at}
 use Rattle.causes.specs.Causes.{accessFault, faultAt, disallowed}
@@ -24,6 +24,12 @@ use Rattle.paging_entry.specs.declared.Translation.the-variants.{To}
 use Rattle.paging_entry.specs.declared.Pages.{Pages}
 use Rattle.paging_entry.specs.Entry.{pagesFor}
 use Rattle.paging.specs.Stages.{firstStageOf, secondStageOf}
+use Rattle.paging.specs.Code.{rawWalk}
+use Rattle.paging.proofs.CodeLaws.{second-walks, second-bare}
+use Rattle.paging_entry.specs.declared.LeafTest.{LeafTest}
+use Rattle.paging_entry.specs.declared.Pages.the-variants.{User}
+use Rattle.paging_entry.specs.declared.Raw.{Raw}
+use Rattle.paging_entry.specs.Code.{testOf, codeOf, toldBy, Tight}
 use Rattle.directory_entry.specs.declared.Tree.the-variants.{Device}
 use Rattle.directory_entry.specs.Entries.{tooWide}
 use Rattle.directory_context.specs.declared.DecodedContext.{DecodedContext}
@@ -41,8 +47,6 @@ use Rattle.message.specs.Table.{messageOf}
 use Rattle.message.specs.declared.Message.{Message}
 use Rattle.iommu_refusals.specs.declared.Settings.{Settings}
 use Rattle.iommu_refusals.specs.declared.DeviceRequest.{DeviceRequest}
-use Rattle.iommu_refusals.specs.Refusals.{overlap}
-use Rattle.iommu_refusals.proofs.Overlap.{apart-words}
 use Rattle.iommu_translation.specs.declared.Outcome.{Outcome}
 use Rattle.iommu_translation.specs.declared.Outcome.the-variants.{Translated, Fault}
 use Rattle.iommu_translation.specs.Translate.{untranslated, onMessage, onSecond, isMessage, guestOf, onFirst, stagesOf, onInfo, onDevice, directoryOf, translateOf}
@@ -173,16 +177,19 @@ module _ (m : ℕ → Load) (s : Settings) (q : DeviceRequest) where
 pub ruleset mode-ways = (mode-off, mode-bare, mode-levels)
 
 -- the windows in another order
-module _ (s : Settings) (q : DeviceRequest) (xs ys : List ℕ) (b : Bool) (t : Starts) (us vs : List ℕ)
-    (ht : t ≡ orderedStarts b (s .starts)) (hu : us ≡ pick b ys xs) (hv : vs ≡ pick b xs ys) where
-  pub order-same : (r : Outcome) → overlap (s .starts) (length xs) (length ys) ≡ false
-      → r ≡ run (memory (lent t us vs)) (directoryOf (record { starts = t; mode = s .mode; root = s .root }) q)
-      → r ≡ run (memory (lent (s .starts) xs ys)) (directoryOf s q)
-  unfolding directoryOf
-  order-same r a e =
-      ordered-run (s .starts) xs ys b t us vs ht hu hv (directoryOf s q) (apart-words (s .starts) (length xs) (length ys) a) e
+module _ (c : DecodedContext) (q : DeviceRequest) (starts : Starts) (xs ys : List ℕ) (b : Bool) (t : Starts) (us vs : List ℕ)
+    (ht : t ≡ orderedStarts b starts) (hu : us ≡ pick b ys xs) (hv : vs ≡ pick b xs ys) where
+  pub order-same : (r : Outcome) → Walkable starts (length xs) (length ys) → r ≡ run (memory (lent t us vs)) (onDevice q (Context c)) → r ≡ run (memory (lent starts xs ys)) (onDevice q (Context c))
+  order-same r w e = ordered-run starts xs ys b t us vs ht hu hv (onDevice q (Context c)) (w .apart) e
 
-  pub order-paged : Paged (s .starts) (length xs) (length ys) → Paged t (length us) (length vs)
-  order-paged p = ordered-paged (s .starts) xs ys b t us vs ht hu hv p
+  pub order-walkable : Walkable starts (length xs) (length ys) → Walkable t (length us) (length vs)
+  order-walkable w = ordered-walkable starts xs ys b t us vs ht hu hv w
 
-pub ruleset order-ways = (order-same, order-paged)
+pub ruleset order-ways = (order-same, order-walkable)
+
+-- the second stage's walk, by the number of its end
+pub second-by : (m : ℕ → Load) (g : PageTable) (x : Access) (a : ℕ) (t : Translation) (l : LeafTest) (n : ℕ) (r : Raw) → g .on ≡ true → l ≡ testOf x User
+    → r ≡ run m (rawWalk (g .scheme) l a (g .root)) → Tight r → n ≡ codeOf r → t ≡ toldBy SecondStage x n → t ≡ run m (secondStageOf g SecondStage x a)
+second-by m g x a t l n r h hl hr ht hn e = second-walks m g SecondStage x a t x l n r h refl hl hr ht hn e
+
+pub ruleset second-ways = (second-by, second-bare)

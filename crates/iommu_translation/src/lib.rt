@@ -21,10 +21,12 @@ ghost use Prim.Native.Nat.{_<_, _^_};
 ghost use lib.ListN.{length};
 ghost use Rattle.memory.specs.Window.{lent, memory};
 ghost use Rattle.memory.specs.Walk.{run};
-ghost use Rattle.memory.specs.Code.{Paged};
+ghost use Rattle.memory.specs.Code.{Walkable};
+ghost use Rattle.paging_scheme.specs.Scheme.{signedOf};
+ghost use Rattle.paging.specs.Stages.{secondStageOf};
+ghost use Rattle.paging_entry.specs.declared.Purpose.the-variants.{SecondStage};
 ghost use Rattle.paging_entry.specs.Entry.{pagesFor};
 ghost use Rattle.directory_context.specs.Code.{SoundContext};
-ghost use Rattle.iommu_refusals.specs.Refusals.{overlap};
 ghost use Rattle.iommu_translation.specs.Translate.{untranslated as untranslatedOf, onMessage, onSecond, isMessage, guestOf, stagesOf, onDevice, directoryOf, translateOf};
 
 // What the tables say of a request, before the store is looked at.
@@ -76,6 +78,26 @@ fn is_message(c: DecodedContext, a: u64) -> bool
     false
 }
 
+// A guest address by the second stage: that which the request leads to.
+fn second_stage<'a>(
+    g: PageTable,
+    x: Access,
+    starts: Starts,
+    first: &'a [u8],
+    second: &'a [u8],
+    a: u64,
+) -> Translation
+    requires { ⌜ (g .root < 2 ^ 44) × (signedOf (g .scheme) ≡ false) × Walkable starts (length (now first)) (length (now second)) ⌝ }
+    ensures { λ r. ⌜ r ≡ run (memory (lent starts (now (first .entry)) (now (second .entry)))) (secondStageOf g SecondStage x a) ⌝ }
+{
+    if g.on {
+        let t = paging_entry::leaf_test(x, Pages::User);
+        let end = paging::guest_walk(g, t, starts, first, second, a);
+        return paging_entry::told(Purpose::SecondStage, x, end);
+    }
+    Translation::To(a)
+}
+
 // The guest address after the first stage: a message, or the second stage's.
 fn guest<'a>(
     c: DecodedContext,
@@ -85,7 +107,7 @@ fn guest<'a>(
     second: &'a [u8],
     a: u64,
 ) -> Outcome
-    requires { ⌜ SoundContext c ⌝ }
+    requires { ⌜ SoundContext c × Walkable starts (length (now first)) (length (now second)) ⌝ }
     ensures { λ r. ⌜ r ≡ run (memory (lent starts (now (first .entry)) (now (second .entry)))) (guestOf c (q .access) a) ⌝ }
 {
     let x = q.access;
@@ -93,7 +115,7 @@ fn guest<'a>(
         return on_message(message::message_of(c.page, c.mask, x, starts, first, second, a));
     }
     let g = c.second;
-    on_second(paging::second_stage(g, Purpose::SecondStage, x, starts, first, second, a))
+    on_second(second_stage(g, x, starts, first, second, a))
 }
 
 // The first-stage pages that a request may use, with SUM.
@@ -114,7 +136,7 @@ fn stages<'a>(
     first: &'a [u8],
     second: &'a [u8],
 ) -> Outcome
-    requires { ⌜ (f .root < 2 ^ 44) × SoundContext c ⌝ }
+    requires { ⌜ (f .root < 2 ^ 44) × SoundContext c × Walkable starts (length (now first)) (length (now second)) ⌝ }
     ensures { λ r. ⌜ r ≡ run (memory (lent starts (now (first .entry)) (now (second .entry)))) (stagesOf c q f sum) ⌝ }
 {
     let x = q.access;
@@ -138,7 +160,7 @@ fn with_context<'a>(
     first: &'a [u8],
     second: &'a [u8],
 ) -> Outcome
-    requires { ⌜ SoundContext c ⌝ }
+    requires { ⌜ SoundContext c × Walkable starts (length (now first)) (length (now second)) ⌝ }
     ensures { λ r. ⌜ r ≡ run (memory (lent starts (now (first .entry)) (now (second .entry)))) (onDevice q (DeviceFound.Context c)) ⌝ }
 {
     let p = q.process;
@@ -150,9 +172,38 @@ fn with_context<'a>(
     stages(c, q, f, sum, starts, first, second)
 }
 
-// Steps 5 to 20, with a directory, over the windows in an order.
-fn in_windows<'a>(s: Settings, q: DeviceRequest, first: &'a [u8], second: &'a [u8]) -> Outcome
-    requires { ⌜ (1 < s .mode) × (s .mode < 5) × (s .root < 2 ^ 44) × Paged (s .starts) (length (now first)) (length (now second)) ⌝ }
+// The page of the tables that the request's walks begin with.
+fn tables_page(c: DecodedContext) -> u64
+    requires { ⌜ SoundContext c ⌝ }
+    ensures { λ r. ⌜ r < 2 ^ 44 ⌝ }
+{
+    let g = c.second;
+    if g.on {
+        return g.root;
+    }
+    directory_entry::root_page(c.fsc)
+}
+
+// The same in the order in which the window that holds that page comes first: where all tables lie in one window, one test finds each of them.
+fn in_order<'a>(
+    c: DecodedContext,
+    q: DeviceRequest,
+    starts: Starts,
+    first: &'a [u8],
+    second: &'a [u8],
+) -> Outcome
+    requires { ⌜ SoundContext c × Walkable starts (length (now first)) (length (now second)) ⌝ }
+    ensures { λ r. ⌜ r ≡ run (memory (lent starts (now (first .entry)) (now (second .entry)))) (onDevice q (DeviceFound.Context c)) ⌝ }
+{
+    let swap = memory::within(starts.second, second.len() as u64, tables_page(c) * 4096);
+    let near = memory::chosen(swap, first, second);
+    let far = memory::chosen(swap, second, first);
+    with_context(c, q, memory::ordered(swap, starts), near, far)
+}
+
+// Steps 5 to 20, with a directory.
+fn in_directory<'a>(s: Settings, q: DeviceRequest, first: &'a [u8], second: &'a [u8]) -> Outcome
+    requires { ⌜ (1 < s .mode) × (s .mode < 5) × (s .root < 2 ^ 44) × Walkable (s .starts) (length (now first)) (length (now second)) ⌝ }
     ensures { λ r. ⌜ r ≡ run (memory (lent (s .starts) (now (first .entry)) (now (second .entry)))) (directoryOf s q) ⌝ }
 {
     let levels = s.mode - 1;
@@ -164,29 +215,12 @@ fn in_windows<'a>(s: Settings, q: DeviceRequest, first: &'a [u8], second: &'a [u
     let DeviceFound::Context(c) = found else {
         return Outcome::Fault(found.fault());
     };
-    with_context(c, q, s.starts, first, second)
-}
-
-// The same in the order in which the window that holds the directory's root comes first: where all tables lie in one window, one test finds each of them.
-fn in_directory<'a>(s: Settings, q: DeviceRequest, first: &'a [u8], second: &'a [u8]) -> Outcome
-    requires { ⌜ (1 < s .mode) × (s .mode < 5) × (s .root < 2 ^ 44) × Paged (s .starts) (length (now first)) (length (now second)) × (overlap (s .starts) (length (now first)) (length (now second)) ≡ false) ⌝ }
-    ensures { λ r. ⌜ r ≡ run (memory (lent (s .starts) (now (first .entry)) (now (second .entry)))) (directoryOf s q) ⌝ }
-{
-    let starts = s.starts;
-    let swap = memory::holds(starts.second, second.len() as u64, s.root * 4096, 8);
-    let near = memory::chosen(swap, first, second);
-    let far = memory::chosen(swap, second, first);
-    let t = Settings {
-        starts: memory::ordered(swap, starts),
-        mode: s.mode,
-        root: s.root,
-    };
-    in_windows(t, q, near, far)
+    in_order(c, q, s.starts, first, second)
 }
 
 // What the tables say of a request.
 pub fn translate<'a>(s: Settings, q: DeviceRequest, first: &'a [u8], second: &'a [u8]) -> Outcome
-    requires { ⌜ (s .mode < 5) × (s .root < 2 ^ 44) × Paged (s .starts) (length (now first)) (length (now second)) × (overlap (s .starts) (length (now first)) (length (now second)) ≡ false) ⌝ }
+    requires { ⌜ (s .mode < 5) × (s .root < 2 ^ 44) × Walkable (s .starts) (length (now first)) (length (now second)) ⌝ }
     ensures { λ r. ⌜ r ≡ run (memory (lent (s .starts) (now (first .entry)) (now (second .entry)))) (translateOf s q) ⌝ }
 {
     let x = q.access;

@@ -3,5 +3,6 @@ pub mod Walks
 pub mod Loads
 pub mod Pages
 pub mod Order
+pub mod Offsets
 pub mod Truth
 pub mod Tests

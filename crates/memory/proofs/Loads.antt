@@ -88,7 +88,7 @@ part-word xs i size k room = same-doubleword (take size (drop i xs)) xs k (i + k
         getD-take size (drop i xs) (k + n) 0 (omega arith) ∙ getD-drop i xs (k + n) 0
         ∙ ap (λ m. getD xs m 0) (let e : i + (k + n) ≡ i + k + n = omega arith in e)
 
-part-long : (xs : List ℕ) (i size : ℕ) → i + size ≤ length xs → length (take size (drop i xs)) ≡ size
+pub part-long : (xs : List ℕ) (i size : ℕ) → i + size ≤ length xs → length (take size (drop i xs)) ≡ size
 part-long xs i size h = length-take-le size (drop i xs) (let d = length-drop i xs in omega arith)
 
 -- the doubleword at an address b in an entry at a, where each window that has it has the whole entry

@@ -1,12 +1,12 @@
 // The two lent windows as memory.
 ghost use mathlib.Core.Path.{_≡_};
 ghost use mathlib.Core.List.{[]};
-ghost use Prim.Native.Nat.{_+_, _≤_, _<_};
+ghost use Prim.Native.Nat.{_+_, _-_, _%_, _^_, _≤_, _<_};
 ghost use lib.ListN.{length};
 ghost use Rattle.memory.specs.Choice.{pick};
 ghost use Rattle.memory.specs.Bits.{bit as bitOf, bits, anySet};
 ghost use Rattle.memory.specs.Window.{inside, little, doubleword, windowAt, lent, partIn, partOf, memory};
-ghost use Rattle.memory.specs.Code.{orderedStarts};
+ghost use Rattle.memory.specs.Code.{Walkable, partAt, loadAt, orderedStarts};
 
 // Where the two windows start.
 pub struct Starts {
@@ -108,15 +108,70 @@ pub fn chosen<'a>(swap: bool, one: &'a [u8], other: &'a [u8]) -> &'a [u8]
     one
 }
 
-// The doubleword at an address.
-pub fn load64<'a>(starts: Starts, first: &'a [u8], second: &'a [u8], a: u64) -> Load
-    ensures { λ r. ⌜ r ≡ memory (lent starts (now (first .entry)) (now (second .entry))) a ⌝ }
+// How far an address lies behind a start; one below the start lies farther than any window is long.
+pub fn offset(start: u64, a: u64) -> u64
+    ensures { λ r. ⌜ (r + start) % 2 ^ 64 ≡ a ⌝ }
 {
-    let e = entry(starts, first, second, a, 8);
+    std::num::wrapping_sub_u64(a, start)
+}
+
+// The address at an offset.
+pub fn address(start: u64, d: u64) -> u64
+    ensures { λ r. ⌜ r ≡ (d + start) % 2 ^ 64 ⌝ }
+{
+    std::num::wrapping_add_u64(d, start)
+}
+
+// Whether an address lies in a window: one compare.
+pub fn within(start: u64, len: u64, a: u64) -> bool
+    requires { ⌜ start + len ≤ 2 ^ 64 ⌝ }
+    ensures { λ r. ⌜ r ≡ inside start len a 1 ⌝ }
+{
+    offset(start, a) < len
+}
+
+// How many offsets of a window have a whole doubleword behind them.
+fn room(len: u64) -> u64
+    ensures { λ r. ⌜ r ≡ len - 7 ⌝ }
+{
+    if len < 8 {
+        return 0;
+    }
+    len - 7
+}
+
+// The bytes of a doubleword at an offset, as a part of the window; none where it isn't whole in it. One compare, for a walk that stays in a window.
+fn part_at<'a>(window: &'a [u8], d: u64) -> &'a [u8]
+    ensures { λ r. ⌜ now r ≡ partAt (now (window .entry)) d ⌝ }
+{
+    if d < room(window.len() as u64) {
+        let i = d as usize;
+        return &window[i..i + 8];
+    }
+    &window[0..0]
+}
+
+// The doubleword at an offset.
+pub fn load_at(window: &[u8], d: u64) -> Load
+    ensures { λ r. ⌜ r ≡ loadAt (now (window .entry)) d ⌝ }
+{
+    let e = part_at(window, d);
     if e.len() < 8 {
         return Load::Violation;
     }
     Load::Value(doubleword_at(e, 0))
+}
+
+// The doubleword at an address. The second window is looked at only where the first doesn't hold it.
+pub fn load64<'a>(starts: Starts, first: &'a [u8], second: &'a [u8], a: u64) -> Load
+    requires { ⌜ Walkable starts (length (now first)) (length (now second)) ⌝ }
+    ensures { λ r. ⌜ r ≡ memory (lent starts (now (first .entry)) (now (second .entry))) a ⌝ }
+{
+    let found = load_at(first, offset(starts.first, a));
+    let Load::Value(v) = found else {
+        return load_at(second, offset(starts.second, a));
+    };
+    Load::Value(v)
 }
 
 // Bit k of a doubleword is 1.

@@ -6,9 +6,11 @@ use memory::Load;
 use memory::Starts;
 ghost use mathlib.Core.Path.{_≡_};
 ghost use Prim.Native.Nat.{_*_, _%_, _^_, _<_};
+ghost use lib.ListN.{length};
 ghost use lib.Dec.{eqb};
 ghost use Rattle.memory.specs.Window.{lent, memory};
 ghost use Rattle.memory.specs.Walk.{run};
+ghost use Rattle.memory.specs.Code.{Walkable};
 ghost use Rattle.message.specs.Table.{alignment, tableFault, permitted as permittedOf, translateReserved, recordReserved, destinationOf, onTranslate, onNotice, onMessageEntry, messageOf};
 
 // Where an entry in MRIF mode has a message recorded, and the notice that it asks for: a number to be written at an address.
@@ -119,7 +121,7 @@ fn on_message_entry<'a>(
     at: u64,
     e: u64,
 ) -> Message
-    requires { ⌜ at < 2 ^ 57 ⌝ }
+    requires { ⌜ (at < 2 ^ 57) × Walkable starts (length (now first)) (length (now second)) ⌝ }
     ensures { λ r. ⌜ r ≡ run (memory (lent starts (now (first .entry)) (now (second .entry)))) (onMessageEntry x a at e) ⌝ }
 {
     if !memory::bit(e, 0) {
@@ -151,7 +153,7 @@ pub fn message_of<'a>(
     second: &'a [u8],
     a: u64,
 ) -> Message
-    requires { ⌜ (page < 2 ^ 44) × (mask < 2 ^ 52) ⌝ }
+    requires { ⌜ (page < 2 ^ 44) × (mask < 2 ^ 52) × Walkable starts (length (now first)) (length (now second)) ⌝ }
     ensures { λ r. ⌜ r ≡ run (memory (lent starts (now (first .entry)) (now (second .entry)))) (messageOf page mask x a) ⌝ }
 {
     if !aligned(page, mask) {

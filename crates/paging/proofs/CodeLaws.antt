@@ -7,7 +7,7 @@ use lib.Dec.{eqb}
 use borrow.Author.Tests.{not-true, not-false, lt-ltb, le-ltb}
 use Rattle.memory.specs.declared.Load.{Load}
 use Rattle.memory.specs.Choice.{pick}
-use Rattle.memory.specs.Walk.{Walk, done, run}
+use Rattle.memory.specs.Walk.{Walk, done, bind, run}
 use Rattle.memory.proofs.Walks.{then, loads, at}
 use Rattle.causes.specs.declared.Access.{Access}
 use Rattle.causes.specs.declared.Access.the-variants.{Read}
@@ -34,7 +34,7 @@ use Rattle.paging_entry.proofs.EntryLaws.{tested, coded}
 use Rattle.paging.specs.declared.PageTable.{PageTable}
 use Rattle.paging.specs.Levels.{onPlace, onStep, entryAt, levelStep, levels, walkOf}
 use Rattle.paging.specs.Stages.{direct, guestLookup, secondStageOf, entryPlace, deviceLookup, firstStageOf}
-use Rattle.paging.specs.Code.{onRaw, rawLevels, rawWalk, Near, Within, Small}
+use Rattle.paging.specs.Code.{onRaw, rawLevels, rawWalk, Near, Within, Small, stepAt, levelsAt}
 use Rattle.paging.proofs.LevelsLaws.{raw-whole}
 
 one-less : (left : ℕ) → 0 < left → suc (left - 1) ≡ left
@@ -184,19 +184,6 @@ bare-within a = omega arith
 
 pub ruleset second-ways = (second-bare, second-walks, told-within, bare-within)
 
--- a level, whose entry's index is i and whose entry lies at t
-module _ (m : ℕ → Load) (s : Scheme) (q : Lookup) (locate : ℕ → Walk Translation) (n table i : ℕ) (t : Translation)
-    (hi : i ≡ indexOf s (q .address) n) (ht : t ≡ run m (locate (table * 4096 + 8 * i))) where
-  placed : (x : Step) → x ≡ run m (onPlace q n t) → x ≡ run m (levelStep s q locate n table)
-  unfolding levelStep
-  placed x e = then m (locate (entryAt s q n table)) (onPlace q n) (ht ∙ ap (λ (j : ℕ). run m (locate (table * 4096 + 8 * j))) hi) e
-
-  stops : (f : FaultInfo) → t ≡ Fault f → Stop t ≡ run m (levelStep s q locate n table)
-  stops f e = placed (Stop t) (at m (onPlace q n) e (ap Stop e))
-
-  loaded : (p : ℕ) (v : Load) (x : Step) → t ≡ To p → v ≡ m p → x ≡ onLoad q n v → x ≡ run m (levelStep s q locate n table)
-  loaded p v x e h k = placed x (at m (onPlace q n) e (loads m p (λ w. done (onLoad q n w)) h k))
-
 told-stop : (p : Purpose) (x : Access) (r : ℕ) → faultyEnd ≤ r → (f : FaultInfo) × (toldBy p x r ≡ Fault f)
 told-stop p x r l = go (eqb r faultyEnd) refl
   where
@@ -204,22 +191,25 @@ told-stop p x r l = go (eqb r faultyEnd) refl
     go true z = (pageFaultOf p x, simp (le-ltb r faultyEnd l, z))
     go false z = (accessFaultOf p x, simp (le-ltb r faultyEnd l, z))
 
--- a level whose entry lies at a guest address, `there`: `place` is the end of the second stage's walk
-module _ (m : ℕ → Load) (s : Scheme) (q : Lookup) (g : PageTable) (n table i there place : ℕ) (w : Raw) (l : LeafTest) (h : g .on ≡ true) (hl : l ≡ testOf Read User)
-    (hi : i ≡ indexOf s (q .address) n) (hd : there ≡ table * 4096 + 8 * i) (hw : w ≡ run m (rawWalk (g .scheme) l there (g .root))) (hT : Tight w) (hp : place ≡ codeOf w) where
-  found : (t : Translation) → t ≡ toldBy FirstStageEntry (q .access) place → t ≡ run m (entryPlace g q (table * 4096 + 8 * i))
-  found t e = second-walks m g FirstStageEntry (q .access) there t Read l place w h refl hl hw hT hp e ∙ ap (λ (j : ℕ). run m (entryPlace g q j)) hd
+-- a level whose entry lies at a guest address, `there`: `place` is the end of the second stage's walk to it
+module _ (m : ℕ → Load) (q : Lookup) (g : PageTable) (n there place : ℕ) (w : Raw) (l : LeafTest) (h : g .on ≡ true) (hl : l ≡ testOf Read User)
+    (hw : w ≡ run m (rawWalk (g .scheme) l there (g .root))) (hT : Tight w) (hp : place ≡ codeOf w) where
+  found : (t : Translation) → t ≡ toldBy FirstStageEntry (q .access) place → t ≡ run m (entryPlace g q there)
+  found t e = second-walks m g FirstStageEntry (q .access) there t Read l place w h refl hl hw hT hp e
 
-  pub level-stops : (t : Translation) → faultyEnd ≤ place → t ≡ toldBy FirstStageEntry (q .access) place → Stop t ≡ run m (levelStep s q (entryPlace g q) n table)
+  pub level-stops : (t : Translation) → faultyEnd ≤ place → t ≡ toldBy FirstStageEntry (q .access) place → Stop t ≡ run m (stepAt q (entryPlace g q) n there)
+  unfolding stepAt
   level-stops t far e =
       let f = told-stop FirstStageEntry (q .access) place far in
-      stops m s q (entryPlace g q) n table i t hi (found t e) (f .0) (e ∙ f .1)
+      then m (entryPlace g q there) (onPlace q n) (found t e) (at m (onPlace q n) (e ∙ f .1) (ap Stop (e ∙ f .1)))
 
   pub level-steps : (v : Load) (t : LeafTest) (r : Raw) (x : Step) → place < faultyEnd → v ≡ m place
-      → t ≡ testOf (askedOf (q .purpose) (q .access)) (q .pages) → r ≡ rawLoad t (q .address) n v → x ≡ toStep (q .purpose) (q .access) r → x ≡ run m (levelStep s q (entryPlace g q) n table)
+      → t ≡ testOf (askedOf (q .purpose) (q .access)) (q .pages) → r ≡ rawLoad t (q .address) n v → x ≡ toStep (q .purpose) (q .access) r → x ≡ run m (stepAt q (entryPlace g q) n there)
+  unfolding stepAt
   level-steps v t r x near hv ht hr hx =
-      loaded m s q (entryPlace g q) n table i (To place) hi (found (To place) (simp (lt-ltb place faultyEnd near))) place v x refl hv
-      (hx ∙ ap (toStep (q .purpose) (q .access)) (hr ∙ ap (λ (y : LeafTest). rawLoad y (q .address) n v) ht) ∙ tested q n v)
+      then m (entryPlace g q there) (onPlace q n) (found (To place) (simp (lt-ltb place faultyEnd near)))
+      (loads m place (λ y. done (onLoad q n y)) hv
+      (hx ∙ ap (toStep (q .purpose) (q .access)) (hr ∙ ap (λ (y : LeafTest). rawLoad y (q .address) n v) ht) ∙ tested q n v))
 
 pub stop-small : (p : Purpose) (x : Access) (r : ℕ) (t : Translation) → faultyEnd ≤ r → t ≡ toldBy p x r → Near t
 stop-small p x r t l e = let f = told-stop p x r l in subst Near (sym (e ∙ f .1)) tt
@@ -235,30 +225,38 @@ step-small p x r t e h = subst Small (sym e) (small-of p x r h)
 
 pub ruleset level-ways = (level-stops, level-steps, stop-small, step-small)
 
--- a turn over levels: `left` are left before it, and w is the answer of the whole walk
-module _ (m : ℕ → Load) (s : Scheme) (q : Lookup) (locate : ℕ → Walk Translation) (left table : ℕ) (t : Step) (w : Translation)
-    (p : 0 < left) (ht : t ≡ run m (levelStep s q locate (left - 1) table)) (hw : run m (levels s q locate left table) ≡ w) where
-  stepped-on : {x : Translation} → x ≡ run m (onStep (levels s q locate (left - 1)) t) → x ≡ w
+-- a turn over levels, before the entry of level n at `there`: the whole walk has l levels from a root
+module _ (m : ℕ → Load) (s : Scheme) (q : Lookup) (locate : ℕ → Walk Translation) (n there l root : ℕ) (t : Step)
+    (ht : t ≡ run m (stepAt q locate n there)) (hw : run m (levelsAt q locate s n there) ≡ run m (levels s q locate l root)) where
+  stepped-on : {x : Translation} → x ≡ run m (onStep (levels s q locate n) t) → x ≡ run m (levels s q locate l root)
+  unfolding levelsAt
+  stepped-on e = then m (stepAt q locate n there) (onStep (levels s q locate n)) ht e ∙ hw
+
+  pub walk-stops : (a : Translation) → t ≡ Stop a → a ≡ run m (levels s q locate l root)
+  walk-stops a e = stepped-on (at m (onStep (levels s q locate n)) e refl)
+
+  -- a non-leaf at the last level
+  pub walk-last : (x : Translation) (k shift : ℕ) → t ≡ Next k → shift ≡ 12 + 9 * n → shift < 21 → x ≡ faulted q → x ≡ run m (levels s q locate l root)
   unfolding levels
-  stepped-on e =
-      then m (levelStep s q locate (left - 1) table) (onStep (levels s q locate (left - 1))) ht e
-      ∙ ap (λ (k : ℕ). run m (levels s q locate k table)) (one-less left p)
-      ∙ hw
+  walk-last x k shift e hs z y =
+      let none : n ≡ 0 = omega (arith, hs) in
+      stepped-on (at m (onStep (levels s q locate n)) e (y ∙ ap (λ (j : ℕ). run m (levels s q locate j k)) (sym none)))
 
-  pub walk-stops : (a : Translation) → t ≡ Stop a → a ≡ w
-  walk-stops a e = stepped-on (at m (onStep (levels s q locate (left - 1))) e refl)
+  pub walk-goes : (k shift i next : ℕ) → t ≡ Next k → shift ≡ 12 + 9 * n → 21 ≤ shift → i ≡ indexOf s (q .address) (n - 1) → next ≡ k * 4096 + 8 * i
+      → run m (levelsAt q locate s (n - 1) next) ≡ run m (levels s q locate l root)
+  unfolding levels levelStep stepAt levelsAt
+  walk-goes k shift i next e hs z hi ha =
+      let more : suc (n - 1) ≡ n = omega (arith, hs) in
+      stepped-on
+      (at m (onStep (levels s q locate n)) e
+      (ap (λ (j : ℕ). run m (levelsAt q locate s (n - 1) j)) (ha ∙ ap (λ (j : ℕ). k * 4096 + 8 * j) hi) ∙ ap (λ (j : ℕ). run m (levels s q locate j k)) more))
 
-  pub walk-goes : (k : ℕ) → t ≡ Next k → run m (levels s q locate (left - 1) k) ≡ w
-  walk-goes k e = stepped-on (at m (onStep (levels s q locate (left - 1))) e refl)
-
-pub walk-ends : (m : ℕ → Load) (s : Scheme) (q : Lookup) (locate : ℕ → Walk Translation) (left table : ℕ) (t w : Translation)
-    → left ≤ 0 → run m (levels s q locate left table) ≡ w → t ≡ faulted q → t ≡ w
-unfolding levels
-walk-ends m s q locate left table t w p hw e = e ∙ sym (ap (λ (k : ℕ). run m (levels s q locate k table)) (none-left left p)) ∙ hw
-
-pub walk-starts : (m : ℕ → Load) (s : Scheme) (q : Lookup) (locate : ℕ → Walk Translation) (left root : ℕ)
-    → left ≡ levelsOf s → run m (levels s q locate left root) ≡ run m (levels s q locate (levelsOf s) root)
-walk-starts m s q locate left root h = ap (λ (k : ℕ). run m (levels s q locate k root)) h
+pub walk-starts : (m : ℕ → Load) (s : Scheme) (q : Lookup) (locate : ℕ → Walk Translation) (l i root there : ℕ) → l ≡ levelsOf s → 0 < l → i ≡ indexOf s (q .address) (levelsOf s - 1)
+    → there ≡ root * 4096 + 8 * i → run m (levelsAt q locate s (l - 1) there) ≡ run m (levels s q locate (levelsOf s) root)
+unfolding levels levelStep stepAt levelsAt
+walk-starts m s q locate l i root there hl p hi ha =
+    ap (λ (j : ℕ). run m (levelsAt q locate s (l - 1) j)) (ha ∙ ap (λ (j : ℕ). root * 4096 + 8 * j) (hi ∙ ap (λ (k : ℕ). indexOf s (q .address) (k - 1)) (sym hl)))
+    ∙ ap (λ (j : ℕ). run m (levels s q locate j root)) (one-less l p ∙ hl)
 
 pub small-next : (t : Step) (k : ℕ) → t ≡ Next k → Small t → k < 2 ^ 44
 small-next t k e h = subst Small e h
@@ -267,7 +265,19 @@ pub test-asked : (q : Lookup) (t : LeafTest) (k : Access) → t ≡ testOf k (q 
     → t ≡ testOf (askedOf (q .purpose) (q .access)) (q .pages)
 test-asked q t k h e = h ∙ ap (λ (y : Access). testOf y (q .pages)) e
 
-pub ruleset walk-ways = (walk-stops, walk-goes, walk-ends, walk-starts, small-next, test-asked)
+pub ruleset walk-ways = (walk-stops, walk-last, walk-goes, walk-starts, small-next, test-asked)
+
+-- the whole of it, by whether the address is legal
+module _ (m : ℕ → Load) (s : Scheme) (q : Lookup) (locate : ℕ → Walk Translation) (root : ℕ) (legal : Bool) (t : Translation) (hl : legal ≡ legalOf s (q .address)) where
+  pub nested-illegal : not legal ≡ true → t ≡ faulted q → t ≡ run m (walkOf s q locate root)
+  unfolding walkOf
+  nested-illegal y e = e ∙ simp (← hl, not-true legal y)
+
+  pub nested-walks : not legal ≡ false → t ≡ run m (levels s q locate (levelsOf s) root) → t ≡ run m (walkOf s q locate root)
+  unfolding walkOf
+  nested-walks y e = e ∙ simp (← hl, not-false legal y)
+
+pub ruleset nested-ways = (nested-illegal, nested-walks, root-top, index-there, test-asked)
 
 bare-place : (g : PageTable) (q : Lookup) → g .on ≡ false → entryPlace g q ≡ direct
 unfolding secondStageOf
@@ -281,15 +291,10 @@ module _ (m : ℕ → Load) (f g : PageTable) (x : Access) (pages : Pages) (a : 
   unfolding firstStageOf
   first-bare h = simp h
 
-  module _ (legal : Bool) (t : Translation) (h : f .on ≡ true) (hl : legal ≡ legalOf (f .scheme) a) where
-    pub first-illegal : legal ≡ false → t ≡ faulted (deviceLookup x pages a) → t ≡ run m (firstStageOf f g x pages a)
-    unfolding firstStageOf walkOf
-    first-illegal l e = e ∙ simp (h, ← hl, l)
-
-    pub first-walks : legal ≡ true → t ≡ run m (levels (f .scheme) (deviceLookup x pages a) (entryPlace g (deviceLookup x pages a)) (levelsOf (f .scheme)) (f .root))
-        → t ≡ run m (firstStageOf f g x pages a)
-    unfolding firstStageOf walkOf
-    first-walks l e = e ∙ simp (h, ← hl, l)
+  pub first-nested : (t : Translation) → f .on ≡ true → t ≡ run m (walkOf (f .scheme) (deviceLookup x pages a) (entryPlace g (deviceLookup x pages a)) (f .root))
+      → t ≡ run m (firstStageOf f g x pages a)
+  unfolding firstStageOf
+  first-nested t h e = e ∙ simp h
 
   -- "First-stage entries lie at guest addresses when the second stage is on", else where their addresses say
   pub first-direct : (t : Translation) (l : LeafTest) (n : ℕ) (r : Raw) → f .on ≡ true → g .on ≡ false → l ≡ testOf x pages → r ≡ run m (rawWalk (f .scheme) l a (f .root))
@@ -301,4 +306,4 @@ module _ (m : ℕ → Load) (f g : PageTable) (x : Access) (pages : Pages) (a : 
       ∙ ap (λ (locate : ℕ → Walk Translation). run m (walkOf (f .scheme) (deviceLookup x pages a) locate (f .root))) (sym (bare-place g (deviceLookup x pages a) b))
       ∙ simp h
 
-pub ruleset first-ways = (first-bare, first-illegal, first-walks, first-direct)
+pub ruleset first-ways = (first-bare, first-nested, first-direct)

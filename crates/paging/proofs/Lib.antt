@@ -1,4 +1,5 @@
 pub mod LevelsLaws
 pub mod CodeLaws
+pub mod StandLaws
 pub mod StagesLaws
 pub mod Offsets

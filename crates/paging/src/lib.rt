@@ -1,6 +1,5 @@
 // Page-table walks of the first and the second stage.
 use causes::Access;
-use memory::Load;
 use memory::Starts;
 use paging_entry::LeafTest;
 use paging_entry::Lookup;
@@ -12,22 +11,30 @@ use paging_entry::Translation;
 use paging_scheme::Scheme;
 ghost use mathlib.Core.Path.{_≡_};
 ghost use mathlib.Core.Bool.{true, false};
-ghost use Prim.Native.Nat.{_+_, _-_, _*_, _<_, _^_};
-ghost use Rattle.memory.specs.Window.{lent, memory};
+ghost use Prim.Native.Nat.{_+_, _-_, _*_, _%_, _≤_, _<_, _^_};
+ghost use lib.ListN.{length};
+ghost use Rattle.memory.specs.Window.{windowAt, lent, memory};
 ghost use Rattle.memory.specs.Walk.{run};
+ghost use Rattle.memory.specs.Code.{Walkable};
 ghost use Rattle.paging_scheme.specs.Scheme.{levelsOf, signedOf, legalOf, pageBitsOf, indexOf};
 ghost use Rattle.paging_entry.specs.Purpose.{askedOf};
 ghost use Rattle.paging_entry.specs.Entry.{faulted as faultedOf};
 ghost use Rattle.paging_entry.specs.Code.{testOf, codeOf, Tight};
-ghost use Rattle.paging.specs.Levels.{levelStep, levels as levelsFrom};
-ghost use Rattle.paging.specs.Stages.{secondStageOf, entryPlace, firstStageOf};
-ghost use Rattle.paging.specs.Code.{rawWalk, Within, Small};
+ghost use Rattle.paging.specs.Levels.{levels as levelsFrom, walkOf};
+ghost use Rattle.paging.specs.Stages.{entryPlace, firstStageOf};
+ghost use Rattle.paging.specs.Code.{rawWalk, nearWalk, Standing, stepAt, Small};
 
 // A stage of translation, as iosatp or iohgatp gives it: Bare where it isn't on.
 pub struct PageTable {
     pub on: bool,
     pub scheme: Scheme,
     pub root: u64,
+}
+
+// Where a walk in one window stands: at its end, as a number, or before an entry that the window doesn't hold: its level, shift and address.
+pub enum Stand {
+    End(u64),
+    Left(u64, u64, u64),
 }
 
 fn faulted(q: Lookup) -> Translation
@@ -46,7 +53,55 @@ fn entry_at(table: u64, i: u64) -> u64
     table * 4096 + 8 * i
 }
 
-// The walk of a table whose entries lie where their addresses say, from the root's shift and index. Its end is one number, so that it comes back in a register; causes come after it. The scheme and the level are for the promise alone, and the compiler drops them.
+// Where the same lies in a window.
+fn entry_offset(start: u64, table: u64, i: u64) -> u64
+    requires { ⌜ (table < 2 ^ 44) × (i < 2048) ⌝ }
+    ensures { λ r. ⌜ (r + start) % 2 ^ 64 ≡ table * 4096 + 8 * i ⌝ }
+{
+    std::num::wrapping_add_u64(table * 4096, memory::offset(start, 8 * i))
+}
+
+// The walk of a table whose entries lie where their addresses say, from an entry of a level on, as far as it stays in one window: one compare a load. The scheme and the level are for the promise alone, and the compiler drops them.
+fn near_walk(
+    s: Scheme,
+    t: LeafTest,
+    a: u64,
+    level: u64,
+    top: u64,
+    place: u64,
+    start: u64,
+    window: &[u8],
+) -> Stand
+    requires { ⌜ (level < 5) × (level < levelsOf s) × (top ≡ pageBitsOf level) × (start + length (now window) ≤ 2 ^ 64) ⌝ }
+    ensures { λ r. ⌜ (r ≡ nearWalk s t a (windowAt start (now (window .entry))) level place) × Standing s r ⌝ }
+{
+    let mut n = level;
+    let mut shift = top;
+    let mut d = memory::offset(start, place);
+    loop {
+        match paging_entry::read_entry(t, a, n, shift, memory::load_at(window, d)) {
+            Raw::Next(next) => {
+                if shift < 21 {
+                    return Stand::End(paging_entry::FAULTY);
+                }
+                n -= 1;
+                shift -= 9;
+                d = entry_offset(start, next, s.below(a, n, shift));
+            }
+            Raw::Arrive(p) => {
+                return Stand::End(p);
+            }
+            Raw::Faulty => {
+                return Stand::End(paging_entry::FAULTY);
+            }
+            Raw::Unread => {
+                return Stand::Left(n, shift, memory::address(start, d));
+            }
+        }
+    }
+}
+
+// The whole of it, from the root's shift and index: where it leaves a window it goes on in the other. Its end is one number, so that it comes back in a register; causes come after it.
 fn descend<'a>(
     s: Scheme,
     t: LeafTest,
@@ -58,41 +113,38 @@ fn descend<'a>(
     second: &'a [u8],
     root: u64,
 ) -> u64
-    requires { ⌜ (root < 2 ^ 44) × (legalOf s a ≡ true) × (top ≡ pageBitsOf (levelsOf s - 1)) × (index ≡ indexOf s a (levelsOf s - 1)) × (index < 2048) ⌝ }
+    requires { ⌜ (root < 2 ^ 44) × (legalOf s a ≡ true) × (top ≡ pageBitsOf (levelsOf s - 1)) × (index ≡ indexOf s a (levelsOf s - 1)) × (index < 2048) × Walkable starts (length (now first)) (length (now second)) ⌝ }
     ensures { λ r. ⌜ (r ≡ codeOf (run (memory (lent starts (now (first .entry)) (now (second .entry)))) (rawWalk s t a root))) × Tight (run (memory (lent starts (now (first .entry)) (now (second .entry)))) (rawWalk s t a root)) ⌝ }
 {
     let mut n = s.levels() - 1;
     let mut shift = top;
-    let mut table = root;
-    let mut i = index;
     let mut at = entry_at(root, index);
+    let mut order = starts;
+    let mut near = first;
+    let mut far = second;
     loop {
-        match paging_entry::read_entry(t, a, n, shift, memory::load64(starts, first, second, at)) {
-            Raw::Next(next) => {
-                if shift < 21 {
-                    return paging_entry::FAULTY;
+        match near_walk(s, t, a, n, shift, at, order.first, near) {
+            Stand::End(end) => {
+                return end;
+            }
+            Stand::Left(level, low, place) => {
+                if !memory::holds(order.second, far.len() as u64, place, 8) {
+                    return paging_entry::UNREAD;
                 }
-                n -= 1;
-                shift -= 9;
-                table = next;
-                i = s.below(a, n, shift);
-                at = entry_at(next, i);
-            }
-            Raw::Arrive(p) => {
-                return p;
-            }
-            Raw::Faulty => {
-                return paging_entry::FAULTY;
-            }
-            Raw::Unread => {
-                return paging_entry::UNREAD;
+                n = level;
+                shift = low;
+                at = place;
+                order = memory::ordered(true, order);
+                let window = near;
+                near = far;
+                far = window;
             }
         }
     }
 }
 
-// The walk of a guest address. Above its root's shift a legal one has the root's index, of eleven bits, and nothing else.
-fn guest_walk<'a>(
+// The walk of a guest address. Above its root's shift a legal one has the root's index, of eleven bits, and nothing else. Its callers make the causes: around it and them the compiler would find too much to inline.
+pub fn guest_walk<'a>(
     g: PageTable,
     t: LeafTest,
     starts: Starts,
@@ -100,7 +152,7 @@ fn guest_walk<'a>(
     second: &'a [u8],
     a: u64,
 ) -> u64
-    requires { ⌜ (g .root < 2 ^ 44) × (signedOf (g .scheme) ≡ false) ⌝ }
+    requires { ⌜ (g .root < 2 ^ 44) × (signedOf (g .scheme) ≡ false) × Walkable starts (length (now first)) (length (now second)) ⌝ }
     ensures { λ r. ⌜ (r ≡ codeOf (run (memory (lent starts (now (first .entry)) (now (second .entry)))) (rawWalk (g .scheme) t a (g .root)))) × Tight (run (memory (lent starts (now (first .entry)) (now (second .entry)))) (rawWalk (g .scheme) t a (g .root))) ⌝ }
 {
     let s = g.scheme;
@@ -112,29 +164,8 @@ fn guest_walk<'a>(
     descend(s, t, a, top, index, starts, first, second, g.root)
 }
 
-// A guest address, by the second stage.
-pub fn second_stage<'a>(
-    g: PageTable,
-    p: Purpose,
-    x: Access,
-    starts: Starts,
-    first: &'a [u8],
-    second: &'a [u8],
-    a: u64,
-) -> Translation
-    requires { ⌜ (g .root < 2 ^ 44) × (signedOf (g .scheme) ≡ false) ⌝ }
-    ensures { λ r. ⌜ (r ≡ run (memory (lent starts (now (first .entry)) (now (second .entry)))) (secondStageOf g p x a)) × Within a r ⌝ }
-{
-    if g.on {
-        let t = paging_entry::leaf_test(paging_entry::asked(p, x), Pages::User);
-        return paging_entry::told(p, x, guest_walk(g, t, starts, first, second, a));
-    }
-    Translation::To(a)
-}
-
-// One level of a first-stage table, whose entries lie at guest addresses. A fault's cause is made where there is one.
+// One level of a first-stage table: its entry lies at a guest address. A fault's cause is made where there is one.
 fn guest_level<'a>(
-    s: Scheme,
     q: Lookup,
     t: LeafTest,
     g: PageTable,
@@ -142,13 +173,13 @@ fn guest_level<'a>(
     first: &'a [u8],
     second: &'a [u8],
     n: u64,
-    table: u64,
+    shift: u64,
+    at: u64,
 ) -> Step
-    requires { ⌜ (n < 5) × (table < 2 ^ 44) × (g .on ≡ true) × (g .root < 2 ^ 44) × (signedOf (g .scheme) ≡ false) × (t ≡ testOf (askedOf (q .purpose) (q .access)) (q .pages)) ⌝ }
-    ensures { λ r. ⌜ (r ≡ run (memory (lent starts (now (first .entry)) (now (second .entry)))) (levelStep s q (entryPlace g q) n table)) × Small r ⌝ }
+    requires { ⌜ (n < 5) × (shift ≡ pageBitsOf n) × (g .on ≡ true) × (g .root < 2 ^ 44) × (signedOf (g .scheme) ≡ false) × (t ≡ testOf (askedOf (q .purpose) (q .access)) (q .pages)) × Walkable starts (length (now first)) (length (now second)) ⌝ }
+    ensures { λ r. ⌜ (r ≡ run (memory (lent starts (now (first .entry)) (now (second .entry)))) (stepAt q (entryPlace g q) n at)) × Small r ⌝ }
 {
     let x = q.access;
-    let at = entry_at(table, s.index(q.address, n));
     let read = paging_entry::leaf_test(Access::Read, Pages::User);
     let place = guest_walk(g, read, starts, first, second, at);
     if paging_entry::FAULTY <= place {
@@ -156,40 +187,69 @@ fn guest_level<'a>(
     }
     let o = q.purpose;
     let v = memory::load64(starts, first, second, place);
-    let shift = paging_scheme::page_shift(n);
     paging_entry::stepped(o, x, paging_entry::read_entry(t, q.address, n, shift, v))
 }
 
+// The walk of first-stage tables under a second stage, from the root's shift and index.
 fn guest_descend<'a>(
     s: Scheme,
     q: Lookup,
+    t: LeafTest,
     g: PageTable,
+    top: u64,
+    index: u64,
     starts: Starts,
     first: &'a [u8],
     second: &'a [u8],
     root: u64,
 ) -> Translation
-    requires { ⌜ (root < 2 ^ 44) × (g .on ≡ true) × (g .root < 2 ^ 44) × (signedOf (g .scheme) ≡ false) ⌝ }
+    requires { ⌜ (root < 2 ^ 44) × (top ≡ pageBitsOf (levelsOf s - 1)) × (index ≡ indexOf s (q .address) (levelsOf s - 1)) × (index < 2048) × (t ≡ testOf (askedOf (q .purpose) (q .access)) (q .pages)) × (g .on ≡ true) × (g .root < 2 ^ 44) × (signedOf (g .scheme) ≡ false) × Walkable starts (length (now first)) (length (now second)) ⌝ }
     ensures { λ r. ⌜ r ≡ run (memory (lent starts (now (first .entry)) (now (second .entry)))) (levelsFrom s q (entryPlace g q) (levelsOf s) root) ⌝ }
 {
-    let o = q.purpose;
-    let x = q.access;
-    let pages = q.pages;
-    let t = paging_entry::leaf_test(paging_entry::asked(o, x), pages);
-    let mut left = s.levels();
-    let mut table = root;
-    while 0 < left {
-        left -= 1;
-        match guest_level(s, q, t, g, starts, first, second, left, table) {
+    let mut n = s.levels() - 1;
+    let mut low = top;
+    let mut at = entry_at(root, index);
+    loop {
+        match guest_level(q, t, g, starts, first, second, n, low, at) {
             Step::Stop(end) => {
                 return end;
             }
             Step::Next(next) => {
-                table = next;
+                if low < 21 {
+                    return faulted(q);
+                }
+                n -= 1;
+                low -= 9;
+                at = entry_at(next, s.below(q.address, n, low));
             }
         }
     }
-    faulted(q)
+}
+
+// The walk of the device's address by tables that lie at guest addresses.
+fn nested_walk<'a>(
+    f: PageTable,
+    q: Lookup,
+    g: PageTable,
+    starts: Starts,
+    first: &'a [u8],
+    second: &'a [u8],
+) -> Translation
+    requires { ⌜ (f .root < 2 ^ 44) × (g .on ≡ true) × (g .root < 2 ^ 44) × (signedOf (g .scheme) ≡ false) × Walkable starts (length (now first)) (length (now second)) ⌝ }
+    ensures { λ r. ⌜ r ≡ run (memory (lent starts (now (first .entry)) (now (second .entry)))) (walkOf (f .scheme) q (entryPlace g q) (f .root)) ⌝ }
+{
+    let s = f.scheme;
+    if !s.legal(q.address) {
+        return faulted(q);
+    }
+    let o = q.purpose;
+    let x = q.access;
+    let pages = q.pages;
+    let t = paging_entry::leaf_test(paging_entry::asked(o, x), pages);
+    let levels = s.levels();
+    let top = paging_scheme::root_shift(levels);
+    let index = s.index(q.address, levels - 1);
+    guest_descend(s, q, t, g, top, index, starts, first, second, f.root)
 }
 
 // The walk of the device's address by tables that lie where their addresses say.
@@ -201,7 +261,7 @@ fn device_walk<'a>(
     second: &'a [u8],
     a: u64,
 ) -> u64
-    requires { ⌜ f .root < 2 ^ 44 ⌝ }
+    requires { ⌜ (f .root < 2 ^ 44) × Walkable starts (length (now first)) (length (now second)) ⌝ }
     ensures { λ r. ⌜ (r ≡ codeOf (run (memory (lent starts (now (first .entry)) (now (second .entry)))) (rawWalk (f .scheme) t a (f .root)))) × Tight (run (memory (lent starts (now (first .entry)) (now (second .entry)))) (rawWalk (f .scheme) t a (f .root))) ⌝ }
 {
     let s = f.scheme;
@@ -234,11 +294,10 @@ pub fn first_stage<'a>(
     second: &'a [u8],
     a: u64,
 ) -> Translation
-    requires { ⌜ (f .root < 2 ^ 44) × (g .root < 2 ^ 44) × (signedOf (g .scheme) ≡ false) ⌝ }
+    requires { ⌜ (f .root < 2 ^ 44) × (g .root < 2 ^ 44) × (signedOf (g .scheme) ≡ false) × Walkable starts (length (now first)) (length (now second)) ⌝ }
     ensures { λ r. ⌜ r ≡ run (memory (lent starts (now (first .entry)) (now (second .entry)))) (firstStageOf f g x pages a) ⌝ }
 {
     if f.on {
-        let s = f.scheme;
         if g.on {
             let q = Lookup {
                 address: a,
@@ -246,10 +305,7 @@ pub fn first_stage<'a>(
                 purpose: Purpose::FirstStage,
                 pages,
             };
-            if s.legal(a) {
-                return guest_descend(s, q, g, starts, first, second, f.root);
-            }
-            return faulted(q);
+            return nested_walk(f, q, g, starts, first, second);
         }
         let t = paging_entry::leaf_test(x, pages);
         return paging_entry::told(

@@ -5,4 +5,4 @@ use Rattle.interrupt_file.proofs.is_file.Statement.{statement}
 use Rattle.interrupt_file.proofs.is_file.Tie as tie
 
 pub is-file-spec : {M : Type 1} → statement M
-is-file-spec = tie.close (tie.spec (λ c. search (file-ways, needs)) (λ c κs. tt) (λ c. search (file-ways, needs)))
+is-file-spec = tie.close (tie.spec (λ c. search (file-ways, needs)) (λ c κs. search needs) (λ c. search (file-ways, needs)))

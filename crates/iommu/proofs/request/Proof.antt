@@ -22,7 +22,7 @@ request-spec =
     (λ c. search needs)
     (λ c. search (request-ways, needs))
     (λ c. search needs)
-    (λ c κs. search needs)
+    (λ c κs. search (request-ways, needs))
     (λ c. search needs)
     (λ c. search needs)
     (λ c. search (request-ways, needs))

@@ -5,4 +5,4 @@ use Rattle.iommu_refusals.proofs.report_refusal.Tie as tie
 
 pub report-refusal-spec : {M : Type 1} → statement M
 report-refusal-spec =
-    tie.close (tie.spec (λ c κs. search needs) (λ c. search (file-checks, needs)) (λ c κs. search needs) (λ c. search (file-checks, needs)) (λ c. search (file-checks, needs)))
+    tie.close (tie.spec (λ c κs. search needs) (λ c. search (file-checks, needs)) (λ c κs. search (file-checks, needs)) (λ c. search (file-checks, needs)) (λ c. search (file-checks, needs)))

@@ -6,4 +6,4 @@ use Rattle.iommu_refusals.proofs.take_refusal.Tie as tie
 pub take-refusal-spec : {M : Type 1} → statement M
 take-refusal-spec =
     tie.close
-    (tie.spec (λ c κs. search needs) (λ c. search (file-checks, needs)) (λ c κs. search needs) (λ c. search (file-checks, needs)) (λ c. search (file-checks, needs)) (λ c. search (file-checks, needs)))
+    (tie.spec (λ c κs. search needs) (λ c. search (file-checks, needs)) (λ c κs. search (file-checks, needs)) (λ c. search (file-checks, needs)) (λ c. search (file-checks, needs)) (λ c. search (file-checks, needs)))

@@ -19,7 +19,7 @@ returns-2 c =
     guest-second _ _ _ _ _
     (message-at _ _ _ _ _ (c .before .before .before .before .is-message .ensures) (c .before .before .before .if1 .left) (omega arith))
     _
-    (c .before .second-stage .ensures .0)
+    (c .before .second-stage .ensures)
     (c .on-second .ensures)
 
 pub guest-spec : {M : Type 1} → statement M

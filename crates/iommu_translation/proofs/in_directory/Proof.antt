@@ -1,5 +1,6 @@
-use Rattle.iommu_translation.proofs.Translation.{order-ways}
+-- `in_directory` meets its contract: one law for each return. Assumes nothing.
 use borrow.Author.Needs.{needs}
+use Rattle.iommu_translation.proofs.Translation.{directory-ways}
 use Rattle.iommu_translation.proofs.in_directory.Statement.{statement}
 use Rattle.iommu_translation.proofs.in_directory.Tie as tie
 
@@ -8,9 +9,13 @@ in-directory-spec =
     tie.close
     (tie.spec
     (λ c. search needs)
+    (λ c κs. tt)
+    (λ c κs. tt)
+    (λ c. search (directory-ways, needs))
     (λ c κs. search needs)
-    (λ c κs. search needs)
-    (λ c κs. search needs)
-    (λ c κs. search needs)
-    (λ c κs. search (order-ways, needs))
-    (λ c. search (order-ways, needs)))
+    (λ c. search needs)
+    (λ c. search needs)
+    (λ c κs. tt)
+    (λ c. search (directory-ways, needs))
+    (λ c κs. search (directory-ways, needs))
+    (λ c. search (directory-ways, needs)))

@@ -7,13 +7,10 @@ pub first-stage-spec : {M : Type 1} → statement M
 first-stage-spec =
     tie.close
     (tie.spec
-    (λ c κs. tt)
     (λ c κs. search needs)
     (λ c. search (first-ways, needs))
-    (λ c κs. tt)
-    (λ c. search (first-ways, needs))
-    (λ c κs. tt)
     (λ c κs. search needs)
-    (λ c κs. tt)
+    (λ c κs. search needs)
+    (λ c κs. search needs)
     (λ c. search (first-ways, needs))
     (λ c. search (first-ways, needs)))

@@ -9,12 +9,9 @@ guest-level-spec =
     (tie.spec
     (λ c κs. search needs)
     (λ c κs. search needs)
-    (λ c κs. tt)
     (λ c κs. search needs)
-    (λ c κs. tt)
     (λ c. search (level-ways, needs))
-    (λ c κs. tt)
     (λ c κs. search needs)
     (λ c κs. search needs)
-    (λ c κs. tt)
+    (λ c κs. search needs)
     (λ c. search (level-ways, needs)))
