@@ -10,12 +10,12 @@ use Rattle.causes.specs.declared.Access.{Access}
 use Rattle.directory_process.specs.declared.ProcessId.{ProcessId}
 use Rattle.iommu_refusals.specs.declared.Settings.{Settings}
 use Rattle.iommu_refusals.specs.declared.DeviceRequest.{DeviceRequest}
-use Rattle.iommu.specs.declared.Answer.{Answer}
-use Rattle.iommu.specs.declared.Answer.the-variants.{Refused}
-use Rattle.iommu.specs.declared.Numbers.{Numbers}
-use Rattle.iommu.specs.Answers.{numbersOf, Answered}
+use Rattle.iommu_files.specs.declared.Answer.{Answer}
+use Rattle.iommu_files.specs.declared.Answer.the-variants.{Refused}
+use Rattle.iommu_files.specs.declared.Numbers.{Numbers}
+use Rattle.iommu_files.specs.Answers.{numbersOf, Answered}
 use Rattle.iommu.specs.Request.{requestOf, afterRequest}
-use Rattle.iommu.proofs.Files.{unchanged, left-same}
+use Rattle.iommu_files.proofs.Files.{unchanged, left-same}
 use Rattle.capi_room.specs.Room.{fitting}
 use Rattle.capi_room.proofs.Rooms.{short-kept, long-changed}
 use Rattle.capi_iommu.specs.declared.Chosen.{Chosen}

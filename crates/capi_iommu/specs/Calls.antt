@@ -2,7 +2,7 @@
 use Prim.Native.Nat.{ℕ}
 use mathlib.Core.List.{List}
 use Rattle.memory.specs.Window.{Lent}
-use Rattle.iommu.specs.Files.{takeOf, afterTakeOf}
+use Rattle.iommu_files.specs.Files.{takeOf, afterTakeOf}
 use Rattle.iommu.specs.Operations.{startsOf}
 use Rattle.capi_room.specs.Room.{status, fitting}
 use Rattle.capi_iommu.specs.Face.{withAnswer, requestFace, afterFace}

@@ -13,9 +13,9 @@ use Rattle.directory_process.specs.declared.ProcessId.{ProcessId}
 use Rattle.directory_process.specs.declared.ProcessId.the-variants.{Absent, Given}
 use Rattle.iommu_refusals.specs.declared.Settings.{Settings}
 use Rattle.iommu_refusals.specs.declared.DeviceRequest.{DeviceRequest}
-use Rattle.iommu.specs.declared.Answer.{Answer}
-use Rattle.iommu.specs.declared.Answer.the-variants.{Translated, Redirected, Stored, Discarded, Fault, Refused, Taken}
-use Rattle.iommu.specs.Answers.{numbersOf}
+use Rattle.iommu_files.specs.declared.Answer.{Answer}
+use Rattle.iommu_files.specs.declared.Answer.the-variants.{Translated, Redirected, Stored, Discarded, Fault, Refused, Taken}
+use Rattle.iommu_files.specs.Answers.{numbersOf}
 use Rattle.iommu.specs.Request.{requestOf, afterRequest}
 use Rattle.capi_iommu.specs.declared.Chosen.{Chosen}
 use Rattle.capi_iommu.specs.declared.Chosen.the-variants.{Known, Unknown}

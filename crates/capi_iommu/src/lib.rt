@@ -1,7 +1,7 @@
 // A request and a take for C and Rust: numbers and lent slices alone. Every input is answered.
 use causes::Access;
 use directory_process::ProcessId;
-use iommu::Answer;
+use iommu_files::Answer;
 use iommu_refusals::DeviceRequest;
 use iommu_refusals::Settings;
 use memory::Starts;
@@ -67,7 +67,7 @@ fn put_answer(out: &mut [u64], a: Answer)
     requires { ⌜ 5 ≤ lengthOf (now out) ⌝ }
     ensures { λ _. ⌜ now (out .exit) ≡ withAnswer (now (out .entry)) a ⌝ }
 {
-    let n = iommu::to_numbers(a);
+    let n = iommu_files::to_numbers(a);
     let stage = stage_of(a);
     out[0] = n.kind;
     out[1] = n.first;
@@ -182,7 +182,7 @@ pub extern "C" fn yasmurekh_take(
         first: first_start,
         second: second_start,
     };
-    let a = iommu::take(starts, first, second, file, identity);
+    let a = iommu_files::take(starts, first, second, file, identity);
     put_answer(out, a);
     0
 }

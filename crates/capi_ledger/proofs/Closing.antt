@@ -10,9 +10,9 @@ use lib.ListN.{length}
 use Rattle.memory.specs.Choice.{pick}
 use Rattle.causes.specs.declared.Access.{Access}
 use Rattle.iommu_refusals.specs.declared.DeviceRequest.{DeviceRequest}
-use Rattle.iommu.specs.declared.Answer.{Answer}
-use Rattle.iommu.specs.declared.Answer.the-variants.{Refused}
-use Rattle.iommu.specs.Answers.{numbersOf}
+use Rattle.iommu_files.specs.declared.Answer.{Answer}
+use Rattle.iommu_files.specs.declared.Answer.the-variants.{Refused}
+use Rattle.iommu_files.specs.Answers.{numbersOf}
 use Rattle.memory.specs.Window.{Lent}
 use Rattle.iommu.specs.Operations.{Op, request, take, answerOf, afterOf}
 use Rattle.ledger.specs.Machine.{asks, asksNothing, AllGranted}

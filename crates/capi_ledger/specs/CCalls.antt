@@ -6,8 +6,8 @@ use lib.Dec.{eqb, ltb}
 use lib.ListN.{length, getD}
 use Rattle.memory.specs.Choice.{pick}
 use Rattle.causes.specs.declared.Access.{Access}
-use Rattle.iommu.specs.declared.Numbers.{Numbers}
-use Rattle.iommu.specs.Answers.{numbers}
+use Rattle.iommu_files.specs.declared.Numbers.{Numbers}
+use Rattle.iommu_files.specs.Answers.{numbers}
 use Rattle.iommu.specs.Operations.{Op, request, take}
 use Rattle.ledger.specs.Machine.{Asked, asks, asksNothing, Machine}
 use Rattle.capi_iommu.specs.declared.Chosen.{Chosen}

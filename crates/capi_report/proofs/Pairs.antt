@@ -15,7 +15,7 @@ use Rattle.memory.specs.declared.Starts.{Starts}
 use Rattle.memory.specs.Window.{Lent, lent, partOf, doubleword}
 use Rattle.interrupt_file.specs.declared.Pair.{Pair}
 use Rattle.interrupt_file.specs.Report.{pairOf, pairsOf, countOf, fileReport, refusedReport}
-use Rattle.iommu.specs.Files.{reportOf}
+use Rattle.iommu_files.specs.Files.{reportOf}
 use Rattle.iommu_refusals.specs.Refusals.{reportRefusal}
 use Rattle.iommu_refusals.specs.Code.{Reportable}
 use Rattle.iommu_refusals.proofs.Bounds.{file-bytes}

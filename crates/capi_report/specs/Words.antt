@@ -5,7 +5,7 @@ use lib.ListN.{set, getD}
 use Rattle.memory.specs.Window.{Lent}
 use Rattle.interrupt_file.specs.declared.Pair.{Pair}
 use Rattle.interrupt_file.specs.declared.Report.{Report}
-use Rattle.iommu.specs.Files.{reportOf}
+use Rattle.iommu_files.specs.Files.{reportOf}
 use Rattle.iommu.specs.Operations.{startsOf}
 
 -- the words from the third on: the pending and the enable doubleword of each of the first k pairs

@@ -1,6 +1,6 @@
 // The worked cases P5 to P10, P13 and P14 of document 01, run by the proved routines, with an empty second window at 0: mark, answer number, three values.
 use causes::Access;
-use iommu::Answer;
+use iommu_files::Answer;
 use libc::STDOUT_FILENO;
 
 fn value(v: u64) {
@@ -9,7 +9,7 @@ fn value(v: u64) {
 }
 
 fn show(mark: u64, answer: Answer) {
-    let n = iommu::to_numbers(answer);
+    let n = iommu_files::to_numbers(answer);
     io::write_all(STDOUT_FILENO, b"P");
     io::print_decimal(STDOUT_FILENO, mark);
     value(n.kind);

@@ -21,8 +21,8 @@ use Rattle.iommu_refusals.specs.declared.DeviceRequest.{DeviceRequest}
 use Rattle.iommu_refusals.specs.Refusals.{requestRefusal}
 use Rattle.iommu_translation.specs.declared.Outcome.{Outcome}
 use Rattle.iommu_translation.specs.Translate.{translateOf}
-use Rattle.iommu.specs.declared.Answer.{Answer}
-use Rattle.iommu.specs.declared.Answer.the-variants.{Refused}
+use Rattle.iommu_files.specs.declared.Answer.{Answer}
+use Rattle.iommu_files.specs.declared.Answer.the-variants.{Refused}
 use Rattle.iommu.specs.Request.{finish, requestOf, readsOf, SameIn, SameAt}
 
 -- one window: a load of it, or what the other gives

@@ -18,16 +18,16 @@ use Rattle.message.specs.declared.Destination.{Destination}
 use Rattle.iommu_refusals.specs.declared.Settings.{Settings}
 use Rattle.iommu_refusals.specs.declared.DeviceRequest.{DeviceRequest}
 use Rattle.iommu_translation.specs.declared.Outcome.{Outcome}
-use Rattle.iommu.specs.declared.Answer.{Answer}
-use Rattle.iommu.specs.declared.Answer.the-variants.{Stored, Discarded, Refused}
+use Rattle.iommu_files.specs.declared.Answer.{Answer}
+use Rattle.iommu_files.specs.declared.Answer.the-variants.{Stored, Discarded, Refused}
 use Rattle.iommu_refusals.specs.Refusals.{isLentFile, requestRefusal}
 use Rattle.iommu_translation.specs.Translate.{translateOf}
 use Rattle.causes.specs.Causes.{isWrite}
 use Rattle.iommu.specs.Request.{reversed, identityOf, storableAs, finish, storedAt, storedBy, requestOf, afterRequest}
-use Rattle.iommu.proofs.Answers.{answered}
+use Rattle.iommu_files.proofs.Answers.{answered}
 use Rattle.iommu_refusals.proofs.Bounds.{passed, stopped, accepted-mode, accepted-root, accepted-walkable}
 use Rattle.iommu.specs.Code.{storedIf}
-use Rattle.iommu.proofs.Files.{changed-first, changed-second, unchanged, left-same, file-is}
+use Rattle.iommu_files.proofs.Files.{changed-first, changed-second, unchanged, left-same, file-is}
 
 -- the identity
 pub identity-reversed : (q : DeviceRequest) (d r : ℕ) → q .address % 4096 ≡ 4 → r ≡ reversed d → r ≡ identityOf q d

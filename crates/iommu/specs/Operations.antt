@@ -4,9 +4,9 @@ use Rattle.memory.specs.declared.Starts.{Starts}
 use Rattle.memory.specs.Window.{Lent}
 use Rattle.iommu_refusals.specs.declared.Settings.{Settings}
 use Rattle.iommu_refusals.specs.declared.DeviceRequest.{DeviceRequest}
-use Rattle.iommu.specs.declared.Answer.{Answer}
+use Rattle.iommu_files.specs.declared.Answer.{Answer}
 use Rattle.iommu.specs.Request.{requestOf, afterRequest}
-use Rattle.iommu.specs.Files.{takeOf, afterTakeOf}
+use Rattle.iommu_files.specs.Files.{takeOf, afterTakeOf}
 
 -- an operation's arguments: mode, root, request and data; or file and identity
 pub data Op : Type 0 where

@@ -16,11 +16,11 @@ use Rattle.iommu_refusals.specs.declared.Settings.{Settings}
 use Rattle.iommu_refusals.specs.declared.DeviceRequest.{DeviceRequest}
 use Rattle.iommu_translation.specs.declared.Outcome.{Outcome}
 use Rattle.iommu_translation.specs.declared.Outcome.the-variants.{Recorded}
-use Rattle.iommu.specs.declared.Answer.{Answer}
-use Rattle.iommu.specs.declared.Answer.the-variants.{Translated, Redirected, Stored, Discarded, Fault, Refused, Taken}
+use Rattle.iommu_files.specs.declared.Answer.{Answer}
+use Rattle.iommu_files.specs.declared.Answer.the-variants.{Translated, Redirected, Stored, Discarded, Fault, Refused, Taken}
 use Rattle.iommu_refusals.specs.Refusals.{isLentFile, requestRefusal}
 use Rattle.iommu_translation.specs.Translate.{translateOf}
-use Rattle.iommu.specs.Files.{changedAt}
+use Rattle.iommu_files.specs.Files.{changedAt}
 
 -- the four bytes of a data value reversed
 abbrev pub reversed : ℕ → ℕ

@@ -9,8 +9,6 @@ use Rattle.memory.specs.Choice.{pick}
 use Rattle.memory.specs.declared.Load.{Load}
 use Rattle.memory.specs.declared.Starts.{Starts}
 use Rattle.memory.specs.Window.{lent, memory}
-use Rattle.memory.specs.Code.{Walkable, orderedStarts}
-use Rattle.memory.proofs.Order.{ordered-run, ordered-walkable}
 use Rattle.memory.specs.Walk.{done, run}
 use Rattle.memory.proofs.Walks.{run-bind, then, at}
 use Rattle.causes.specs.Causes.{accessFault, faultAt, disallowed}
@@ -175,17 +173,6 @@ module _ (m : ℕ → Load) (s : Settings) (q : DeviceRequest) where
   mode-levels o h k e = e ∙ simp (ne-eqb (s .mode) 0 h, ne-eqb (s .mode) 1 k)
 
 pub ruleset mode-ways = (mode-off, mode-bare, mode-levels)
-
--- the windows in another order
-module _ (c : DecodedContext) (q : DeviceRequest) (starts : Starts) (xs ys : List ℕ) (b : Bool) (t : Starts) (us vs : List ℕ)
-    (ht : t ≡ orderedStarts b starts) (hu : us ≡ pick b ys xs) (hv : vs ≡ pick b xs ys) where
-  pub order-same : (r : Outcome) → Walkable starts (length xs) (length ys) → r ≡ run (memory (lent t us vs)) (onDevice q (Context c)) → r ≡ run (memory (lent starts xs ys)) (onDevice q (Context c))
-  order-same r w e = ordered-run starts xs ys b t us vs ht hu hv (onDevice q (Context c)) (w .apart) e
-
-  pub order-walkable : Walkable starts (length xs) (length ys) → Walkable t (length us) (length vs)
-  order-walkable w = ordered-walkable starts xs ys b t us vs ht hu hv w
-
-pub ruleset order-ways = (order-same, order-walkable)
 
 -- the second stage's walk, by the number of its end
 pub second-by : (m : ℕ → Load) (g : PageTable) (x : Access) (a : ℕ) (t : Translation) (l : LeafTest) (n : ℕ) (r : Raw) → g .on ≡ true → l ≡ testOf x User

@@ -172,35 +172,6 @@ fn with_context<'a>(
     stages(c, q, f, sum, starts, first, second)
 }
 
-// The page of the tables that the request's walks begin with.
-fn tables_page(c: DecodedContext) -> u64
-    requires { ⌜ SoundContext c ⌝ }
-    ensures { λ r. ⌜ r < 2 ^ 44 ⌝ }
-{
-    let g = c.second;
-    if g.on {
-        return g.root;
-    }
-    directory_entry::root_page(c.fsc)
-}
-
-// The same in the order in which the window that holds that page comes first: where all tables lie in one window, one test finds each of them.
-fn in_order<'a>(
-    c: DecodedContext,
-    q: DeviceRequest,
-    starts: Starts,
-    first: &'a [u8],
-    second: &'a [u8],
-) -> Outcome
-    requires { ⌜ SoundContext c × Walkable starts (length (now first)) (length (now second)) ⌝ }
-    ensures { λ r. ⌜ r ≡ run (memory (lent starts (now (first .entry)) (now (second .entry)))) (onDevice q (DeviceFound.Context c)) ⌝ }
-{
-    let swap = memory::within(starts.second, second.len() as u64, tables_page(c) * 4096);
-    let near = memory::chosen(swap, first, second);
-    let far = memory::chosen(swap, second, first);
-    with_context(c, q, memory::ordered(swap, starts), near, far)
-}
-
 // Steps 5 to 20, with a directory.
 fn in_directory<'a>(s: Settings, q: DeviceRequest, first: &'a [u8], second: &'a [u8]) -> Outcome
     requires { ⌜ (1 < s .mode) × (s .mode < 5) × (s .root < 2 ^ 44) × Walkable (s .starts) (length (now first)) (length (now second)) ⌝ }
@@ -215,7 +186,7 @@ fn in_directory<'a>(s: Settings, q: DeviceRequest, first: &'a [u8], second: &'a 
     let DeviceFound::Context(c) = found else {
         return Outcome::Fault(found.fault());
     };
-    in_order(c, q, s.starts, first, second)
+    with_context(c, q, s.starts, first, second)
 }
 
 // What the tables say of a request.

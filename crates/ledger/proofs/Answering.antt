@@ -15,16 +15,16 @@ use Rattle.memory.specs.Walk.{run}
 use Rattle.message.specs.declared.Destination.{Destination}
 use Rattle.iommu_refusals.specs.declared.DeviceRequest.{DeviceRequest}
 use Rattle.iommu_translation.specs.declared.Outcome.{Outcome}
-use Rattle.iommu.specs.declared.Answer.{Answer}
-use Rattle.iommu.specs.declared.Answer.the-variants.{Translated, Redirected, Stored, Discarded, Fault, Refused, Taken}
-use Rattle.iommu.specs.Answers.{numbersOf}
+use Rattle.iommu_files.specs.declared.Answer.{Answer}
+use Rattle.iommu_files.specs.declared.Answer.the-variants.{Translated, Redirected, Stored, Discarded, Fault, Refused, Taken}
+use Rattle.iommu_files.specs.Answers.{numbersOf}
 use Rattle.iommu_refusals.specs.Refusals.{badWindows, overlap, isLentFile, requestRefusal, takeRefusal}
 use Rattle.iommu_translation.specs.Translate.{translateOf}
 use Rattle.iommu.specs.Request.{identityOf, storable, finish, requestOf}
-use Rattle.iommu.specs.Files.{pendingAt, takeOf}
-use Rattle.iommu.proofs.Files.{take-made, take-refused}
+use Rattle.iommu_files.specs.Files.{pendingAt, takeOf}
+use Rattle.iommu_files.proofs.Files.{take-made, take-refused}
 use Rattle.iommu.proofs.Requests.{record-stores, record-low, request-finishes}
-use Rattle.iommu.specs.declared.Numbers.{Numbers}
+use Rattle.iommu_files.specs.declared.Numbers.{Numbers}
 use Rattle.iommu.specs.Operations.{Op, request, take, startsOf, settings, answerOf}
 use Rattle.ledger.specs.Ledger.{store, nothing, opEvent}
 use Rattle.ledger.specs.Closes.{Storing, takeRefused, noticesOf, noticeGiven}

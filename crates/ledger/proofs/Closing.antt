@@ -9,9 +9,9 @@ use Rattle.message.specs.declared.Destination.{Destination}
 use Rattle.memory.specs.Window.{Lent, holds}
 use Rattle.interrupt_file.proofs.Pending.{pending-lt}
 use Rattle.iommu_refusals.specs.declared.DeviceRequest.{DeviceRequest}
-use Rattle.iommu.specs.declared.Answer.the-variants.{Stored, Refused, Taken}
-use Rattle.iommu.specs.declared.Numbers.{Numbers}
-use Rattle.iommu.specs.Answers.{numbersOf}
+use Rattle.iommu_files.specs.declared.Answer.the-variants.{Stored, Refused, Taken}
+use Rattle.iommu_files.specs.declared.Numbers.{Numbers}
+use Rattle.iommu_files.specs.Answers.{numbersOf}
 use Rattle.iommu.specs.Operations.{Op, request, take, answerOf}
 use Rattle.ledger.specs.Places.{Side, firstWindow, secondWindow, windowOf, Place, place}
 use Rattle.ledger.specs.Machine.{Asked, asks, asksNothing, Machine, routines, leftBy, history, AllGranted}

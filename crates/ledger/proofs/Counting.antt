@@ -7,12 +7,12 @@ use native.Mathlib.Omega.{arith}
 use lib.Dec.{eqb}
 use Rattle.memory.specs.Choice.{pick, unlessRefused}
 use Rattle.iommu_refusals.specs.declared.DeviceRequest.{DeviceRequest}
-use Rattle.iommu.specs.declared.Answer.{Answer}
-use Rattle.iommu.specs.declared.Answer.the-variants.{Translated, Redirected, Stored, Discarded, Fault, Refused, Taken}
-use Rattle.iommu.specs.declared.Numbers.{Numbers}
-use Rattle.iommu.specs.Answers.{numbersOf}
+use Rattle.iommu_files.specs.declared.Answer.{Answer}
+use Rattle.iommu_files.specs.declared.Answer.the-variants.{Translated, Redirected, Stored, Discarded, Fault, Refused, Taken}
+use Rattle.iommu_files.specs.declared.Numbers.{Numbers}
+use Rattle.iommu_files.specs.Answers.{numbersOf}
 use Rattle.iommu.specs.Request.{identityOf}
-use Rattle.iommu.specs.Files.{pendingAt, takeOf}
+use Rattle.iommu_files.specs.Files.{pendingAt, takeOf}
 use Rattle.iommu.specs.Operations.{Op, request, take, answerOf}
 use Rattle.memory.specs.Window.{Lent}
 use Rattle.ledger.specs.Places.{Side, Place}

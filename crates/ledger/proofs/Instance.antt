@@ -24,12 +24,12 @@ use Rattle.message_recognition.specs.Recognition.{recognised, packed, extract}
 use Rattle.message.specs.Table.{translateReserved, recordReserved, onNotice, onTranslate, onMessageEntry, messageOf}
 use Rattle.interrupt_file.specs.Bit.{bitAt, withBit, withoutBit}
 use Rattle.interrupt_file.specs.File.{isFile, pendingOf, afterStore, afterTake}
-use Rattle.iommu.specs.declared.Numbers.{Numbers}
-use Rattle.iommu.specs.Answers.{numbers}
+use Rattle.iommu_files.specs.declared.Numbers.{Numbers}
+use Rattle.iommu_files.specs.Answers.{numbers}
 use Rattle.iommu_refusals.specs.Refusals.{badWindow, overlap, requestRefusal, takeRefusal}
 use Rattle.iommu_translation.specs.Translate.{untranslated, isMessage, guestOf, stagesOf, directoryOf, translateOf}
 use Rattle.iommu.specs.Request.{storableAs, finish, requestOf, afterRequest}
-use Rattle.iommu.specs.Files.{takeOf, afterTakeOf}
+use Rattle.iommu_files.specs.Files.{takeOf, afterTakeOf}
 use Rattle.iommu.specs.Operations.{Op, request, take}
 use Rattle.ledger.specs.Places.{firstWindow, secondWindow, Place, place}
 use Rattle.ledger.specs.Machine.{Call, routines, leftBy, history}

@@ -17,13 +17,13 @@ use Rattle.interrupt_file.specs.File.{isFile, placeOf, pendingOf, afterStore, a
 use Rattle.interrupt_file.proofs.Files.{file-at}
 use Rattle.interrupt_file.proofs.Pending.{length-after-store, length-after-take, pending-lt, pending-stored, pending-taken, pending-store-other, pending-take-other}
 use Rattle.iommu_refusals.specs.declared.DeviceRequest.{DeviceRequest}
-use Rattle.iommu.specs.declared.Answer.{Answer}
-use Rattle.iommu.specs.declared.Answer.the-variants.{Translated, Redirected, Stored, Discarded, Fault, Refused, Taken}
-use Rattle.iommu.specs.declared.Numbers.{Numbers}
-use Rattle.iommu.specs.Answers.{numbersOf}
+use Rattle.iommu_files.specs.declared.Answer.{Answer}
+use Rattle.iommu_files.specs.declared.Answer.the-variants.{Translated, Redirected, Stored, Discarded, Fault, Refused, Taken}
+use Rattle.iommu_files.specs.declared.Numbers.{Numbers}
+use Rattle.iommu_files.specs.Answers.{numbersOf}
 use Rattle.iommu_refusals.specs.Refusals.{isLentFile}
 use Rattle.iommu.specs.Request.{identityOf, storedBy, afterRequest}
-use Rattle.iommu.specs.Files.{changedAt, pendingAt, takenAt, takeOf, afterTakeOf}
+use Rattle.iommu_files.specs.Files.{changedAt, pendingAt, takenAt, takeOf, afterTakeOf}
 use Rattle.iommu.specs.Operations.{Op, request, take, answerOf, afterOf}
 use Rattle.ledger.specs.Places.{Side, firstWindow, secondWindow, windowOf, Place, place, liesIn, isPlace}
 use Rattle.ledger.specs.Closes.{takeRefused}

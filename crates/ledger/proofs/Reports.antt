@@ -17,12 +17,12 @@ use Rattle.interrupt_file.specs.Report.{countOf, fileReport}
 use Rattle.interrupt_file.specs.declared.Report.{Report}
 use Rattle.interrupt_file.proofs.Bits.{or-pow}
 use Rattle.interrupt_file.proofs.Files.{file-at}
-use Rattle.iommu.specs.declared.Answer.{Answer}
-use Rattle.iommu.specs.declared.Answer.the-variants.{Translated, Redirected, Stored, Discarded, Fault, Refused, Taken}
+use Rattle.iommu_files.specs.declared.Answer.{Answer}
+use Rattle.iommu_files.specs.declared.Answer.the-variants.{Translated, Redirected, Stored, Discarded, Fault, Refused, Taken}
 use Rattle.iommu_refusals.specs.Refusals.{badWindows, overlap, isLentFile, reportRefusal}
 use Rattle.iommu.specs.Request.{identityOf, storedBy, afterRequest}
-use Rattle.iommu.specs.Files.{changedAt, takenAt, afterTakeOf, reportOf}
-use Rattle.iommu.proofs.Files.{report-made}
+use Rattle.iommu_files.specs.Files.{changedAt, takenAt, afterTakeOf, reportOf}
+use Rattle.iommu_files.proofs.Files.{report-made}
 use Rattle.iommu.specs.Operations.{Op, request, take, startsOf, answerOf, afterOf}
 use Rattle.ledger.specs.Places.{Side, firstWindow, secondWindow, windowOf, Place, liesIn, isPlace}
 use Rattle.ledger.specs.Machine.{routines, leftBy, history}

@@ -11,7 +11,7 @@ use Rattle.memory.specs.Window.{Lent}
 use Rattle.interrupt_file.specs.File.{pendingOf}
 use Rattle.interrupt_file.proofs.Files.{file-at}
 use Rattle.iommu_refusals.specs.Refusals.{overlap, isLentFile}
-use Rattle.iommu.specs.Files.{changedAt, pendingAt}
+use Rattle.iommu_files.specs.Files.{changedAt, pendingAt}
 use Rattle.ledger.specs.Places.{Side, firstWindow, secondWindow, windowOf, liesIn}
 use Rattle.ledger.proofs.Answering.{no-way, starts, xs, ys, Apart}
 

@@ -7,10 +7,10 @@ use lib.ListN.{length}
 use Rattle.memory.specs.Choice.{unlessRefused}
 use Rattle.memory.specs.Window.{Lent}
 use Rattle.iommu_refusals.specs.Refusals.{isLentFile}
-use Rattle.iommu.specs.declared.Answer.{Answer}
-use Rattle.iommu.specs.declared.Answer.the-variants.{Translated, Redirected, Stored, Discarded, Fault, Refused, Taken}
-use Rattle.iommu.specs.Answers.{numbersOf}
-use Rattle.iommu.specs.Files.{pendingAt, takeOf}
+use Rattle.iommu_files.specs.declared.Answer.{Answer}
+use Rattle.iommu_files.specs.declared.Answer.the-variants.{Translated, Redirected, Stored, Discarded, Fault, Refused, Taken}
+use Rattle.iommu_files.specs.Answers.{numbersOf}
+use Rattle.iommu_files.specs.Files.{pendingAt, takeOf}
 use Rattle.iommu.specs.Operations.{Op, request, take, answerOf}
 use Rattle.ledger.specs.Places.{Side, firstWindow, secondWindow, Place, place, liesIn, isPlace}
 use Rattle.ledger.specs.Machine.{routines, history}

@@ -13,9 +13,9 @@ use Rattle.message.specs.declared.Destination.{Destination}
 use Rattle.interrupt_file.specs.File.{placeOf}
 use Rattle.iommu_refusals.specs.declared.DeviceRequest.{DeviceRequest}
 use Rattle.iommu_translation.specs.declared.Outcome.the-variants.{Recorded}
-use Rattle.iommu.specs.declared.Answer.the-variants.{Stored, Refused, Taken}
-use Rattle.iommu.specs.declared.Numbers.{Numbers}
-use Rattle.iommu.specs.Answers.{numbersOf}
+use Rattle.iommu_files.specs.declared.Answer.the-variants.{Stored, Refused, Taken}
+use Rattle.iommu_files.specs.declared.Numbers.{Numbers}
+use Rattle.iommu_files.specs.Answers.{numbersOf}
 use Rattle.iommu_refusals.specs.Refusals.{isLentFile, requestRefusal, takeRefusal}
 use Rattle.iommu_translation.specs.Translate.{translateOf}
 use Rattle.iommu.specs.Request.{storable}

@@ -5,7 +5,7 @@ use mathlib.Core.List.{List, [], _∷_}
 use lib.Dec.{eqb}
 use Rattle.memory.specs.Choice.{pick}
 use Rattle.interrupt_file.specs.File.{pendingOf}
-use Rattle.iommu.specs.declared.Numbers.{Numbers}
+use Rattle.iommu_files.specs.declared.Numbers.{Numbers}
 use Rattle.iommu.specs.Request.{identityOf}
 use Rattle.memory.specs.Window.{Lent}
 use Rattle.iommu.specs.Operations.{Op, request, take}

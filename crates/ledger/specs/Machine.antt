@@ -1,7 +1,7 @@
 -- Machines of calls on what is lent, and lists of calls on one memory (01, "The ledger of demand 3": "Its requests and takes all give the same window start; directory mode and root may differ"; 02: "both windows at fixed places").
 use mathlib.Core.List.{List, [], _∷_}
-use Rattle.iommu.specs.declared.Numbers.{Numbers}
-use Rattle.iommu.specs.Answers.{numbersOf}
+use Rattle.iommu_files.specs.declared.Numbers.{Numbers}
+use Rattle.iommu_files.specs.Answers.{numbersOf}
 use Rattle.memory.specs.Window.{Lent}
 use Rattle.iommu.specs.Operations.{Op, answerOf, afterOf}
 use Rattle.ledger.specs.Places.{Place}

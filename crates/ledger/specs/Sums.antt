@@ -6,7 +6,7 @@ use mathlib.Core.List.{List, [], _∷_}
 use lib.Dec.{eqb}
 use Rattle.memory.specs.Choice.{pick}
 use Rattle.memory.specs.Window.{Lent}
-use Rattle.iommu.specs.declared.Numbers.{Numbers}
+use Rattle.iommu_files.specs.declared.Numbers.{Numbers}
 use Rattle.iommu.specs.Operations.{Op, request, take}
 use Rattle.ledger.specs.Places.{Place, samePlace, isPlace}
 use Rattle.ledger.specs.Machine.{Asked, asks, asksNothing, Machine, Call}

@@ -1,6 +1,6 @@
 // A small list of calls over two windows, and the ledger that its history gives: what each call was answered, then a row for each interrupt it speaks of.
 use causes::Access;
-use iommu::Answer;
+use iommu_files::Answer;
 use libc::STDOUT_FILENO;
 ghost use Prim.Native.Nat.{_<_};
 
@@ -94,7 +94,7 @@ fn value(v: u64) {
 }
 
 fn show(answer: Answer) {
-    let n = iommu::to_numbers(answer);
+    let n = iommu_files::to_numbers(answer);
     value(n.kind);
     value(n.first);
     value(n.second);
@@ -135,7 +135,7 @@ fn take(
     identity: u64,
 ) -> Ledger {
     io::write_all(STDOUT_FILENO, b"take");
-    let answer = iommu::take(layout::starts(SECOND), first, second, file, identity);
+    let answer = iommu_files::take(layout::starts(SECOND), first, second, file, identity);
     show(answer);
     let Answer::Taken(w) = answer else {
         return l;
@@ -152,7 +152,7 @@ fn take(
 
 // The pending bit of an identity, as a report of its file has it.
 fn pending<'a>(first: &'a [u8], second: &'a [u8], file: u64, identity: u64) -> u64 {
-    let r = iommu::report(layout::starts(SECOND), first, second, file);
+    let r = iommu_files::report(layout::starts(SECOND), first, second, file);
     let pairs = r.pairs;
     if identity < 2048 {
         let k = (identity / 64) as usize;
@@ -180,8 +180,8 @@ fn total<'a>(first: &'a [u8], second: &'a [u8], l: Ledger) {
     let stores = plus(l.low.stores, plus(l.high.stores, l.other.stores));
     let takes = plus(l.low.takes, plus(l.high.takes, l.other.takes));
     let merged = plus(l.low.merged, plus(l.high.merged, l.other.merged));
-    let far = iommu::report(layout::starts(SECOND), first, second, FAR);
-    let near = iommu::report(layout::starts(SECOND), first, second, NEAR);
+    let far = iommu_files::report(layout::starts(SECOND), first, second, FAR);
+    let near = iommu_files::report(layout::starts(SECOND), first, second, NEAR);
     io::write_all(STDOUT_FILENO, b"sum");
     value(stores);
     io::write_all(STDOUT_FILENO, b" =");

@@ -1,6 +1,6 @@
 -- Nothing here has to be believed: windows that a walk may go through, a window's doublewords by their offsets, and two windows in the other order.
 use Prim.Native.Nat.{ℕ, _+_, _%_, _^_, _≤_}
-use mathlib.Core.Bool.{Bool, true, false}
+use mathlib.Core.Bool.{true}
 use mathlib.Core.List.{List, []}
 use mathlib.Core.Path.{_≡_}
 use lib.Dec.{leb}
@@ -33,7 +33,6 @@ partAt bytes d = pick (leb (d + 8) (length bytes)) (take 8 (drop d bytes)) []
 abbrev pub loadAt : List ℕ → ℕ → Load
 loadAt bytes d = pick (leb (d + 8) (length bytes)) (Value (doubleword bytes d)) Violation
 
--- the starts in the other order, or as they are
-abbrev pub orderedStarts : Bool → Starts → Starts
-orderedStarts true starts = record { first = starts .second; second = starts .first }
-orderedStarts false starts = starts
+-- the starts in the other order
+abbrev pub turnedStarts : Starts → Starts
+turnedStarts starts = record { first = starts .second; second = starts .first }

@@ -3,10 +3,9 @@ ghost use mathlib.Core.Path.{_≡_};
 ghost use mathlib.Core.List.{[]};
 ghost use Prim.Native.Nat.{_+_, _-_, _%_, _^_, _≤_, _<_};
 ghost use lib.ListN.{length};
-ghost use Rattle.memory.specs.Choice.{pick};
 ghost use Rattle.memory.specs.Bits.{bit as bitOf, bits, anySet};
 ghost use Rattle.memory.specs.Window.{inside, little, doubleword, windowAt, lent, partIn, partOf, memory};
-ghost use Rattle.memory.specs.Code.{Walkable, partAt, loadAt, orderedStarts};
+ghost use Rattle.memory.specs.Code.{Walkable, partAt, loadAt, turnedStarts};
 
 // Where the two windows start.
 pub struct Starts {
@@ -85,27 +84,14 @@ pub fn entry<'a>(starts: Starts, first: &'a [u8], second: &'a [u8], a: u64, size
     part(starts.second, second, a, size)
 }
 
-// The starts in the other order, or as they are.
-pub fn ordered(swap: bool, starts: Starts) -> Starts
-    ensures { λ r. ⌜ r ≡ orderedStarts swap starts ⌝ }
+// The starts in the other order.
+pub fn turned(starts: Starts) -> Starts
+    ensures { λ r. ⌜ r ≡ turnedStarts starts ⌝ }
 {
-    if swap {
-        return Starts {
-            first: starts.second,
-            second: starts.first,
-        };
+    Starts {
+        first: starts.second,
+        second: starts.first,
     }
-    starts
-}
-
-// The other of two windows, or the one.
-pub fn chosen<'a>(swap: bool, one: &'a [u8], other: &'a [u8]) -> &'a [u8]
-    ensures { λ r. ⌜ now r ≡ pick swap (now (other .entry)) (now (one .entry)) ⌝ }
-{
-    if swap {
-        return other;
-    }
-    one
 }
 
 // How far an address lies behind a start; one below the start lies farther than any window is long.

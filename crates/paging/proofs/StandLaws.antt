@@ -15,9 +15,9 @@ use Rattle.memory.specs.declared.Starts.{Starts}
 use Rattle.memory.specs.Choice.{pick}
 use Rattle.memory.specs.Walk.{done, run}
 use Rattle.memory.specs.Window.{Window, inside, holds, doubleword, windowAt, lent, loadIn, memory}
-use Rattle.memory.specs.Code.{Walkable, loadAt, orderedStarts}
+use Rattle.memory.specs.Code.{Walkable, loadAt, turnedStarts}
 use Rattle.memory.proofs.Offsets.{offset-load}
-use Rattle.memory.proofs.Order.{swapped-memory, swapped-walkable, first-load, no-load}
+use Rattle.memory.proofs.Order.{turned-memory, turned-walkable, first-load, no-load}
 use Rattle.paging_scheme.specs.declared.Scheme.{Scheme}
 use Rattle.paging_scheme.specs.declared.Scheme.the-variants.{Sv39, Sv48, Sv57, Sv39x4, Sv48x4, Sv57x4}
 use Rattle.paging_scheme.specs.Scheme.{levelsOf, legalOf, pageBitsOf, indexOf}
@@ -276,7 +276,7 @@ module _ (s : Scheme) (t : LeafTest) (a n at e : ℕ) (order starts : Starts) (n
         sym (ap (λ (v : Load). codeOf (run (memory (lent starts xs ys)) (onRaw (rawLevels s t a level) (rawLoad t a level v)))) gone) ∙ turn-left
 
     -- the other does: a level less, or the same in a window that holds it
-    pub turn-less : (turned : Starts) (b : Bool) → turned ≡ orderedStarts true order → b ≡ inside (order .second) (length far) place 8 → not b ≡ false
+    pub turn-less : (turned : Starts) (b : Bool) → turned ≡ turnedStarts order → b ≡ inside (order .second) (length far) place 8 → not b ≡ false
         → 2 * level + pick (inside (turned .first) (length far) place 8) 0 1 < 2 * n + pick (inside (order .first) (length near) at 8) 0 1
     turn-less turned b ht hb y =
         let less = subst (Lower s t a here n at) (sym hs ∙ h) (near-lower s t a here n at) in
@@ -294,12 +294,12 @@ module _ (s : Scheme) (t : LeafTest) (a n at e : ℕ) (order starts : Starts) (n
     left-shift k = subst (Standing s) h k .2
 
 -- the windows in the other order
-module _ (order starts turned : Starts) (near far xs ys : List ℕ) (ht : turned ≡ orderedStarts true order) where
-  pub turned-walkable : Walkable order (length near) (length far) → Walkable turned (length far) (length near)
-  turned-walkable w = subst (λ (k : Starts). Walkable k (length far) (length near)) (sym ht) (swapped-walkable order (length near) (length far) w)
+module _ (order starts other : Starts) (near far xs ys : List ℕ) (ht : other ≡ turnedStarts order) where
+  pub other-walkable : Walkable order (length near) (length far) → Walkable other (length far) (length near)
+  other-walkable w = subst (λ (k : Starts). Walkable k (length far) (length near)) (sym ht) (turned-walkable order (length near) (length far) w)
 
-  pub turned-memory : Walkable order (length near) (length far) → memory (lent order near far) ≡ memory (lent starts xs ys) → memory (lent turned far near) ≡ memory (lent starts xs ys)
-  turned-memory w e = ap (λ (k : Starts). memory (lent k far near)) ht ∙ swapped-memory order near far (w .apart) ∙ e
+  pub other-memory : Walkable order (length near) (length far) → memory (lent order near far) ≡ memory (lent starts xs ys) → memory (lent other far near) ≡ memory (lent starts xs ys)
+  other-memory w e = ap (λ (k : Starts). memory (lent k far near)) ht ∙ turned-memory order near far (w .apart) ∙ e
 
 -- before the first
 pub stand-starts : (m : ℕ → Load) (s : Scheme) (t : LeafTest) (a root l i at : ℕ) → legalOf s a ≡ true → l ≡ levelsOf s → 0 < l → i ≡ indexOf s a (levelsOf s - 1) → at ≡ root * 4096 + 8 * i
@@ -309,4 +309,4 @@ stand-starts m s t a root l i at h hl p hi ha =
     ap (λ (k : ℕ). codeOf (run m (rawFrom s t a (l - 1) k))) (ha ∙ ap (λ (j : ℕ). root * 4096 + 8 * j) (hi ∙ ap (λ (k : ℕ). indexOf s a (k - 1)) (sym hl)))
     ∙ ap codeOf (raw-starts m s t a root l h hl p)
 
-pub ruleset turn-ways = (turn-ends, turn-left, turn-unread, turn-less, left-level, left-deep, left-shift, turned-walkable, turned-memory, stand-starts, tight-walk)
+pub ruleset turn-ways = (turn-ends, turn-left, turn-unread, turn-less, left-level, left-deep, left-shift, other-walkable, other-memory, stand-starts, tight-walk)

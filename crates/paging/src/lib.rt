@@ -134,7 +134,7 @@ fn descend<'a>(
                 n = level;
                 shift = low;
                 at = place;
-                order = memory::ordered(true, order);
+                order = memory::turned(order);
                 let window = near;
                 near = far;
                 far = window;

@@ -8,7 +8,7 @@ use Rattle.directory_entry.specs.Entries.{directoryIndex}
 use Rattle.directory_entry.specs.declared.Tree.the-variants.{Device, Process}
 use Rattle.directory_process.specs.declared.ProcessId.the-variants.{Absent, Given}
 use Rattle.message_recognition.specs.Recognition.{extract, recognised, fileNumber}
-use Rattle.iommu.specs.declared.Answer.{Answer}
+use Rattle.iommu_files.specs.declared.Answer.{Answer}
 use Rattle.iommu.specs.Request.{identityOf, requestOf, afterRequest}
 use Rattle.worked_rows.specs.Memory.{inMode}
 use Rattle.worked_rows.specs.Rows.{Row, row, one, shown}

@@ -20,7 +20,7 @@ use Rattle.interrupt_file.specs.Report.{pairsOf, countOf}
 use Rattle.iommu_refusals.specs.Refusals.{badWindow, overlap, requestRefusal, takeRefusal, reportRefusal}
 use Rattle.iommu_translation.specs.Translate.{untranslated, isMessage, guestOf, stagesOf, directoryOf, translateOf}
 use Rattle.iommu.specs.Request.{storableAs, finish, requestOf, afterRequest}
-use Rattle.iommu.specs.Files.{takeOf, afterTakeOf, reportOf}
+use Rattle.iommu_files.specs.Files.{takeOf, afterTakeOf, reportOf}
 use Rattle.worked_rows.specs.Memory.{words}
 use Rattle.worked_rows.specs.Rows.{Agrees}
 use Rattle.worked_windows.specs.Windows.{chip, main, windows}

@@ -9,7 +9,7 @@ use Rattle.causes.specs.declared.Access.the-variants.{Read, Write}
 use Rattle.directory_process.specs.declared.ProcessId.the-variants.{Absent}
 use Rattle.interrupt_file.specs.declared.Pair.{Pair}
 use Rattle.interrupt_file.specs.declared.Report.{Report}
-use Rattle.iommu.specs.Files.{reportOf}
+use Rattle.iommu_files.specs.Files.{reportOf}
 use Rattle.iommu.specs.Operations.{Op, request, take, startsOf, answerOf, afterOf}
 use Rattle.worked_rows.specs.Memory.{words}
 use Rattle.worked_rows.specs.Rows.{Row, row, shown}

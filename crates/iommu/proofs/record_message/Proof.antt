@@ -1,7 +1,7 @@
 -- `record_message` meets its contract: one law for each return. Assumes nothing.
 use native.Mathlib.Omega.{arith}
 use borrow.Author.Needs.{needs}
-use Rattle.iommu.specs.declared.Answer.the-variants.{Refused}
+use Rattle.iommu_files.specs.declared.Answer.the-variants.{Refused}
 use Rattle.iommu.proofs.Requests.{stored-left, of-number, record-ways}
 use Rattle.iommu.proofs.record_message.Statement.{statement}
 use Rattle.iommu.proofs.record_message.Tie as tie

@@ -9,11 +9,11 @@ use Rattle.memory.specs.Window.{Lent, lent, Leaves, partOf}
 use Rattle.interrupt_file.specs.File.{isFile, pendingOf, afterTake}
 use Rattle.interrupt_file.specs.Report.{fileReport, refusedReport}
 use Rattle.interrupt_file.specs.declared.Report.{Report}
-use Rattle.iommu.proofs.Answers.{answered}
+use Rattle.iommu_files.proofs.Answers.{answered}
 use Rattle.iommu_refusals.specs.Refusals.{isLentFile, takeRefusal, reportRefusal}
 use Rattle.iommu_refusals.proofs.Bounds.{passed, stopped, take-lent, take-identity, take-walkable, in-second, report-lent, file-bytes}
-use Rattle.iommu.specs.declared.Answer.the-variants.{Refused, Taken}
-use Rattle.iommu.specs.Files.{changedAt, pendingAt, takenAt, takeOf, afterTakeOf, reportOf}
+use Rattle.iommu_files.specs.declared.Answer.the-variants.{Refused, Taken}
+use Rattle.iommu_files.specs.Files.{changedAt, pendingAt, takenAt, takeOf, afterTakeOf, reportOf}
 
 -- a change in one window, and none in the other
 module _ (starts : Starts) (xs ys : List ℕ) (file : ℕ) (change : ℕ → List ℕ → List ℕ) (b : Bool) (hb : b ≡ isFile (starts .first) (length xs) file) where

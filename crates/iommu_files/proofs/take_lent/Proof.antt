@@ -1,7 +1,7 @@
-use Rattle.iommu.proofs.Files.{lent-ways}
+use Rattle.iommu_files.proofs.Files.{lent-ways}
 use borrow.Author.Needs.{needs}
-use Rattle.iommu.proofs.take_lent.Statement.{statement}
-use Rattle.iommu.proofs.take_lent.Tie as tie
+use Rattle.iommu_files.proofs.take_lent.Statement.{statement}
+use Rattle.iommu_files.proofs.take_lent.Tie as tie
 
 pub take-lent-spec : {M : Type 1} → statement M
 take-lent-spec =

@@ -1,9 +1,9 @@
 -- 01's number and values for each case of an answer (01, "What a request holds"). A fault's stage stands in its FaultInfo.
 use Prim.Native.Nat.{ℕ}
 use mathlib.Core.Path.{_≡_}
-use Rattle.iommu.specs.declared.Answer.{Answer}
-use Rattle.iommu.specs.declared.Answer.the-variants.{Translated, Redirected, Stored, Discarded, Fault, Refused, Taken}
-use Rattle.iommu.specs.declared.Numbers.{Numbers}
+use Rattle.iommu_files.specs.declared.Answer.{Answer}
+use Rattle.iommu_files.specs.declared.Answer.the-variants.{Translated, Redirected, Stored, Discarded, Fault, Refused, Taken}
+use Rattle.iommu_files.specs.declared.Numbers.{Numbers}
 
 abbrev pub numbers : ℕ → ℕ → ℕ → ℕ → Numbers
 numbers kind a b c = record { kind = kind; first = a; second = b; third = c }

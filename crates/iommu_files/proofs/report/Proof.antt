@@ -1,7 +1,7 @@
-use Rattle.iommu.proofs.Files.{report-ways}
+use Rattle.iommu_files.proofs.Files.{report-ways}
 use borrow.Author.Needs.{needs}
-use Rattle.iommu.proofs.report.Statement.{statement}
-use Rattle.iommu.proofs.report.Tie as tie
+use Rattle.iommu_files.proofs.report.Statement.{statement}
+use Rattle.iommu_files.proofs.report.Tie as tie
 
 pub report-spec : {M : Type 1} → statement M
 report-spec =

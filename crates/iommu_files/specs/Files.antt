@@ -9,8 +9,8 @@ use Rattle.memory.specs.Window.{Lent, lent, partOf}
 use Rattle.interrupt_file.specs.File.{isFile, pendingOf, afterTake}
 use Rattle.interrupt_file.specs.Report.{fileReport, refusedReport}
 use Rattle.interrupt_file.specs.declared.Report.{Report}
-use Rattle.iommu.specs.declared.Answer.{Answer}
-use Rattle.iommu.specs.declared.Answer.the-variants.{Refused, Taken}
+use Rattle.iommu_files.specs.declared.Answer.{Answer}
+use Rattle.iommu_files.specs.declared.Answer.the-variants.{Refused, Taken}
 use Rattle.iommu_refusals.specs.Refusals.{takeRefusal, reportRefusal}
 
 -- the windows' starts and bytes

@@ -1,8 +1,8 @@
 -- An answer's numbers. Assumes nothing.
 use mathlib.Core.Path.{_≡_, sym, ap, _∙_}
-use Rattle.iommu.specs.declared.Answer.{Answer}
-use Rattle.iommu.specs.declared.Numbers.{Numbers}
-use Rattle.iommu.specs.Answers.{numbersOf, Answered}
+use Rattle.iommu_files.specs.declared.Answer.{Answer}
+use Rattle.iommu_files.specs.declared.Numbers.{Numbers}
+use Rattle.iommu_files.specs.Answers.{numbersOf, Answered}
 
 -- by its case
 pub numbers-are : (a b : Answer) (n : Numbers) → a ≡ b → n ≡ numbersOf b → n ≡ numbersOf a

@@ -1,7 +1,7 @@
-use Rattle.iommu.proofs.Files.{take-ways}
+use Rattle.iommu_files.proofs.Files.{take-ways}
 use borrow.Author.Needs.{needs}
-use Rattle.iommu.proofs.take.Statement.{statement}
-use Rattle.iommu.proofs.take.Tie as tie
+use Rattle.iommu_files.proofs.take.Statement.{statement}
+use Rattle.iommu_files.proofs.take.Tie as tie
 
 pub take-spec : {M : Type 1} → statement M
 take-spec =

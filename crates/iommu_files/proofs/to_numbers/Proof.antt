@@ -1,8 +1,8 @@
 -- `to_numbers` meets its contract, case by case. Assumes nothing.
-use Rattle.iommu.proofs.Answers.{numbers-are}
+use Rattle.iommu_files.proofs.Answers.{numbers-are}
 use borrow.Author.Needs.{needs}
-use Rattle.iommu.proofs.to_numbers.Statement.{statement}
-use Rattle.iommu.proofs.to_numbers.Tie as tie
+use Rattle.iommu_files.proofs.to_numbers.Statement.{statement}
+use Rattle.iommu_files.proofs.to_numbers.Tie as tie
 
 pub to-numbers-spec : {M : Type 1} → statement M
 to-numbers-spec =
