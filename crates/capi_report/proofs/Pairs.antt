@@ -125,7 +125,7 @@ module _ (starts : Starts) (xs ys : List ℕ) (file : ℕ) (out : List ℕ) wher
   by-number : (r : ℕ) → Reportable starts (length xs) (length ys) file r
       → set (withPairs (set out 0 r) (pairIn (fileBytes l file r)) 32) 1 (pendingOnes (pairIn (fileBytes l file r)) 32)
       ≡ withReport out (unlessRefused r refusedReport (fileReport (partOf l file 512)))
-  by-number zero h = of-file (partOf l file 512) out (file-bytes starts xs ys file h)
+  by-number zero h = of-file (partOf l file 512) out (file-bytes starts xs ys file (h .0))
   by-number (suc r) h = of-refusal (suc r) out
 
   pub long-report : (n r : ℕ) (e before x : List ℕ) (c : ℕ)

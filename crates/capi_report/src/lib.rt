@@ -4,6 +4,7 @@ ghost use mathlib.Core.Path.{_≡_};
 ghost use Prim.Native.Nat.{_≤_, _<_};
 ghost use lib.ListN.{length as lengthOf};
 ghost use Rattle.memory.specs.Window.{lent, lentAt};
+ghost use Rattle.iommu_refusals.specs.Code.{Reportable};
 ghost use Rattle.capi_room.specs.Room.{status, fitting};
 ghost use Rattle.capi_report.specs.Words.{withPairs, withReport, reportIn};
 ghost use Rattle.capi_report.specs.Code.{fileBytes, wordIn, pairIn, pendingOnes};
@@ -16,6 +17,7 @@ fn file_bytes<'a>(
     file: u64,
     refusal: u64,
 ) -> &'a [u8]
+    requires { ⌜ Reportable starts (lengthOf (now first)) (lengthOf (now second)) file refusal ⌝ }
     ensures { λ r. ⌜ now r ≡ fileBytes (lent starts (now (first .entry)) (now (second .entry))) file refusal ⌝ }
 {
     if refusal == 0 {

@@ -11,7 +11,7 @@ use Rattle.interrupt_file.specs.Report.{fileReport, refusedReport}
 use Rattle.interrupt_file.specs.declared.Report.{Report}
 use Rattle.iommu_files.proofs.Answers.{answered}
 use Rattle.iommu_refusals.specs.Refusals.{isLentFile, takeRefusal, reportRefusal}
-use Rattle.iommu_refusals.proofs.Bounds.{passed, stopped, take-lent, take-identity, take-walkable, in-second, report-lent, file-bytes}
+use Rattle.iommu_refusals.proofs.Bounds.{passed, stopped, take-lent, take-identity, take-walkable, in-second, report-lent, report-walkable, file-bytes}
 use Rattle.iommu_files.specs.declared.Answer.the-variants.{Refused, Taken}
 use Rattle.iommu_files.specs.Files.{changedAt, pendingAt, takenAt, takeOf, afterTakeOf, reportOf}
 
@@ -83,4 +83,4 @@ pub report-room : (starts : Starts) (xs ys : List ℕ) (file : ℕ) (e : List �
     → e ≡ partOf (lent starts xs ys) file 512 → 512 ≤ length e
 report-room starts xs ys file e h he = subst (λ (k : List ℕ). 512 ≤ length k) (sym he) (file-bytes starts xs ys file h)
 
-pub ruleset report-ways = (report-made, report-refused, report-lent, report-room)
+pub ruleset report-ways = (report-made, report-refused, report-lent, report-walkable, report-room)

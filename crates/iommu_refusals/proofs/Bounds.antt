@@ -59,7 +59,10 @@ module _ (starts : Starts) (n m file i r : ℕ) (h : Takeable starts n m file i 
 
 -- a report
 pub report-lent : (starts : Starts) (n m file r : ℕ) → Reportable starts n m file r → r ≡ 0 → isLentFile starts n m file ≡ true
-report-lent starts n m file r h z = subst (Reportable starts n m file) z h
+report-lent starts n m file r h z = subst (Reportable starts n m file) z h .0
+
+pub report-walkable : (starts : Starts) (n m file r : ℕ) → Reportable starts n m file r → r ≡ 0 → Walkable starts n m
+report-walkable starts n m file r h z = subst (Reportable starts n m file) z h .1
 
 -- the bytes of a file that is in either window
 pub file-bytes : (starts : Starts) (xs ys : List ℕ) (file : ℕ) → isLentFile starts (length xs) (length ys) file ≡ true → 512 ≤ length (partOf (lent starts xs ys) file 512)

@@ -36,5 +36,5 @@ Takeable starts n m file i zero = (isLentFile starts n m file ≡ true) × (i < 
 Takeable starts n m file i (suc r) = Unit {0}
 
 abbrev pub Reportable : Starts → ℕ → ℕ → ℕ → ℕ → Type 0
-Reportable starts n m file zero = isLentFile starts n m file ≡ true
+Reportable starts n m file zero = (isLentFile starts n m file ≡ true) × Walkable starts n m
 Reportable starts n m file (suc r) = Unit {0}

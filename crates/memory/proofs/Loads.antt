@@ -5,12 +5,13 @@ use mathlib.Core.List.{List, []}
 use mathlib.Core.Path.{_≡_, refl, sym, ap, ap₂, subst, _∙_}
 use native.Mathlib.Nat.{add-zero}
 use native.Mathlib.Omega.{arith}
-use borrow.Author.Tests.{le-leb, lt-leb, leb-true, leb-false}
-use lib.Dec.{leb}
+use borrow.Author.Tests.{le-leb, lt-leb, leb-true, leb-false, ltb-true, ltb-false}
+use lib.Dec.{leb, ltb}
 use lib.ListN.{length, getD, take, drop, length-drop}
 use lib.Seq.{length-take-le, getD-take, getD-drop}
 use Rattle.memory.specs.Choice.{pick}
-use Rattle.memory.specs.Window.{inside, doubleword, Window, Lent, windowAt, lent, holds, partIn, partOf, memory}
+use Rattle.memory.specs.Window.{inside, doubleword, Window, Lent, lent, holds, partOf, memory}
+use Rattle.memory.specs.Code.{loadOf}
 use Rattle.memory.specs.declared.Starts.{Starts}
 use Rattle.memory.specs.declared.Load.{Load}
 use Rattle.memory.specs.declared.Load.the-variants.{Value, Violation}
@@ -47,31 +48,6 @@ module _ (start len a size : ℕ) (b : Bool) (hb : b ≡ inside start len a size
 
   pub held-fits : len < 2 ^ 64 → a - start + size < 2 ^ 64
   held-fits f = let h = held-high in omega arith
-
--- the part in each case
-module _ (start : ℕ) (xs : List ℕ) (a size : ℕ) (b : Bool) (hb : b ≡ inside start (length xs) a size) where
-  pub part-held : b ≡ true → take (a - start + size - (a - start)) (drop (a - start) xs) ≡ partIn (windowAt start xs) a size []
-  part-held t =
-      let e : a - start + size - (a - start) ≡ size = omega arith in
-      ap (λ n. take n (drop (a - start) xs)) e ∙ yes-is (inside start (length xs) a size) _ _ _ (sym hb ∙ t) refl
-
-  pub part-none : b ≡ false → take (0 - 0) (drop 0 xs) ≡ partIn (windowAt start xs) a size []
-  part-none t = no-is (inside start (length xs) a size) _ _ _ (sym hb ∙ t) refl
-
-pub ruleset part-ways = (held-low, held-high, held-fits, part-held, part-none)
-
-module _ (starts : Starts) (xs ys : List ℕ) (a size : ℕ) (b : Bool) (hb : b ≡ inside (starts .first) (length xs) a size) where
-  pub entry-first : {r : List ℕ} → b ≡ true → r ≡ partIn (windowAt (starts .first) xs) a size [] → r ≡ partOf (lent starts xs ys) a size
-  unfolding partOf
-  entry-first t e =
-      let h = sym hb ∙ t in
-      yes-is (inside (starts .first) (length xs) a size) _ _ _ h (e ∙ sym (yes-is (inside (starts .first) (length xs) a size) _ _ _ h refl))
-
-  pub entry-second : {r : List ℕ} → b ≡ false → r ≡ partIn (windowAt (starts .second) ys) a size [] → r ≡ partOf (lent starts xs ys) a size
-  unfolding partOf
-  entry-second t e = no-is (inside (starts .first) (length xs) a size) _ _ _ (sym hb ∙ t) e
-
-pub ruleset entry-ways = (entry-first, entry-second)
 
 -- the bytes of a doubleword, wherever they stand
 pub same-doubleword : (xs ys : List ℕ) (i j : ℕ) → ((k : ℕ) → k < 8 → getD xs (i + k) 0 ≡ getD ys (j + k) 0) → doubleword xs i ≡ doubleword ys j
@@ -138,14 +114,13 @@ module _ (l : Lent) (a : ℕ) (e : List ℕ) (he : e ≡ partOf l a 8) where
   same : a ≡ a + 0
   same = sym (add-zero a)
 
-  pub load-none : length e < 8 → Violation ≡ memory l a
-  load-none h = whole-none l a 8 a 0 same (omega arith) refl refl (subst (λ (x : List ℕ). length x < 8) he h)
-
-  pub load-word : (v : ℕ) → 8 ≤ length e → v ≡ doubleword e 0 → Value v ≡ memory l a
-  load-word v h hv =
-      ap Value (hv ∙ ap (λ x. doubleword x 0) he) ∙ whole-word l a 8 a 0 same (omega arith) refl refl (subst (λ (x : List ℕ). 8 ≤ length x) he h)
-
-pub ruleset load-ways = (load-none, load-word)
+  pub load-part : (v : Load) → v ≡ loadOf e → v ≡ memory l a
+  load-part v hv = hv ∙ go (ltb (length e) 8) refl
+    where
+      go : (b : Bool) → ltb (length e) 8 ≡ b → pick b Violation (Value (doubleword e 0)) ≡ memory l a
+      go true t = whole-none l a 8 a 0 same (omega arith) refl refl (subst (λ (x : List ℕ). length x < 8) he (ltb-true (length e) 8 t))
+      go false t =
+          ap (λ x. Value (doubleword x 0)) he ∙ whole-word l a 8 a 0 same (omega arith) refl refl (subst (λ (x : List ℕ). 8 ≤ length x) he (ltb-false (length e) 8 t))
 
 -- the part has all its bytes where a window holds them
 module _ (starts : Starts) (xs ys : List ℕ) (a size : ℕ) where

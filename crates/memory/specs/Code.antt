@@ -3,7 +3,7 @@ use Prim.Native.Nat.{ℕ, _+_, _%_, _^_, _≤_}
 use mathlib.Core.Bool.{true}
 use mathlib.Core.List.{List, []}
 use mathlib.Core.Path.{_≡_}
-use lib.Dec.{leb}
+use lib.Dec.{leb, ltb}
 use lib.ListN.{length, take, drop}
 use Rattle.memory.specs.Choice.{pick}
 use Rattle.memory.specs.Window.{inside, doubleword}
@@ -26,9 +26,13 @@ pub record Walkable (starts : Starts) (n m : ℕ) : Type 0 where
   pub secondEnd : starts .second + m ≤ 2 ^ 64
   pub apart : Disjoint starts n m
 
--- the bytes of a doubleword at an offset of a window, and the doubleword
-abbrev pub partAt : List ℕ → ℕ → List ℕ
-partAt bytes d = pick (leb (d + 8) (length bytes)) (take 8 (drop d bytes)) []
+-- the bytes of an entry at an offset of a window
+abbrev pub partAt : List ℕ → ℕ → ℕ → List ℕ
+partAt bytes d size = pick (leb (d + size) (length bytes)) (take size (drop d bytes)) []
+
+-- the doubleword in an entry's bytes, and at an offset of a window
+abbrev pub loadOf : List ℕ → Load
+loadOf bytes = pick (ltb (length bytes) 8) Violation (Value (doubleword bytes 0))
 
 abbrev pub loadAt : List ℕ → ℕ → Load
 loadAt bytes d = pick (leb (d + 8) (length bytes)) (Value (doubleword bytes d)) Violation

@@ -1,11 +1,10 @@
 // The two lent windows as memory.
 ghost use mathlib.Core.Path.{_≡_};
-ghost use mathlib.Core.List.{[]};
 ghost use Prim.Native.Nat.{_+_, _-_, _%_, _^_, _≤_, _<_};
 ghost use lib.ListN.{length};
 ghost use Rattle.memory.specs.Bits.{bit as bitOf, bits, anySet};
-ghost use Rattle.memory.specs.Window.{inside, little, doubleword, windowAt, lent, partIn, partOf, memory};
-ghost use Rattle.memory.specs.Code.{Walkable, partAt, loadAt, turnedStarts};
+ghost use Rattle.memory.specs.Window.{inside, little, doubleword, lent, partOf, memory};
+ghost use Rattle.memory.specs.Code.{Walkable, partAt, loadOf, loadAt, turnedStarts};
 
 // Where the two windows start.
 pub struct Starts {
@@ -63,27 +62,6 @@ pub fn holds(start: u64, len: u64, a: u64, size: u64) -> bool
     a - start <= len - size
 }
 
-// The bytes of an entry, as a part of one window; none where it doesn't hold it.
-fn part<'a>(start: u64, window: &'a [u8], a: u64, size: u64) -> &'a [u8]
-    ensures { λ r. ⌜ now r ≡ partIn (windowAt start (now (window .entry))) a size [] ⌝ }
-{
-    if holds(start, window.len() as u64, a, size) {
-        let i = (a - start) as usize;
-        return &window[i..i + size as usize];
-    }
-    &window[0..0]
-}
-
-// The bytes of an entry, as a part of whichever window holds it; none where neither does. The second window is looked at only where the first doesn't hold it.
-pub fn entry<'a>(starts: Starts, first: &'a [u8], second: &'a [u8], a: u64, size: u64) -> &'a [u8]
-    ensures { λ r. ⌜ now r ≡ partOf (lent starts (now (first .entry)) (now (second .entry))) a size ⌝ }
-{
-    if holds(starts.first, first.len() as u64, a, size) {
-        return part(starts.first, first, a, size);
-    }
-    part(starts.second, second, a, size)
-}
-
 // The starts in the other order.
 pub fn turned(starts: Starts) -> Starts
     ensures { λ r. ⌜ r ≡ turnedStarts starts ⌝ }
@@ -116,48 +94,64 @@ pub fn within(start: u64, len: u64, a: u64) -> bool
     offset(start, a) < len
 }
 
-// How many offsets of a window have a whole doubleword behind them.
-fn room(len: u64) -> u64
-    ensures { λ r. ⌜ r ≡ len - 7 ⌝ }
+// How many offsets of a window have a whole entry behind them.
+fn room(len: u64, size: u64) -> u64
+    requires { ⌜ 0 < size ⌝ }
+    ensures { λ r. ⌜ r ≡ len + 1 - size ⌝ }
 {
-    if len < 8 {
+    if len < size {
         return 0;
     }
-    len - 7
+    len - size + 1
 }
 
-// The bytes of a doubleword at an offset, as a part of the window; none where it isn't whole in it. One compare, for a walk that stays in a window.
-fn part_at<'a>(window: &'a [u8], d: u64) -> &'a [u8]
-    ensures { λ r. ⌜ now r ≡ partAt (now (window .entry)) d ⌝ }
+// The bytes of an entry at an offset, as a part of the window; none where it isn't whole in it. One compare.
+fn part<'a>(window: &'a [u8], d: u64, size: u64) -> &'a [u8]
+    requires { ⌜ 0 < size ⌝ }
+    ensures { λ r. ⌜ now r ≡ partAt (now (window .entry)) d size ⌝ }
 {
-    if d < room(window.len() as u64) {
+    if d < room(window.len() as u64, size) {
         let i = d as usize;
-        return &window[i..i + 8];
+        return &window[i..i + size as usize];
     }
     &window[0..0]
 }
 
-// The doubleword at an offset.
-pub fn load_at(window: &[u8], d: u64) -> Load
-    ensures { λ r. ⌜ r ≡ loadAt (now (window .entry)) d ⌝ }
+// The bytes of an entry, as a part of whichever window holds it; none where neither does. The second window is looked at only where the first doesn't hold it.
+pub fn entry<'a>(starts: Starts, first: &'a [u8], second: &'a [u8], a: u64, size: u64) -> &'a [u8]
+    requires { ⌜ (0 < size) × Walkable starts (length (now first)) (length (now second)) ⌝ }
+    ensures { λ r. ⌜ now r ≡ partOf (lent starts (now (first .entry)) (now (second .entry))) a size ⌝ }
 {
-    let e = part_at(window, d);
-    if e.len() < 8 {
-        return Load::Violation;
+    let bytes = part(first, offset(starts.first, a), size);
+    if (bytes.len() as u64) < size {
+        return part(second, offset(starts.second, a), size);
     }
-    Load::Value(doubleword_at(e, 0))
+    bytes
 }
 
-// The doubleword at an address. The second window is looked at only where the first doesn't hold it.
+// The doubleword in the bytes of an entry, or a violation where there are none.
+fn loaded(bytes: &[u8]) -> Load
+    ensures { λ r. ⌜ r ≡ loadOf (now (bytes .entry)) ⌝ }
+{
+    if bytes.len() < 8 {
+        return Load::Violation;
+    }
+    Load::Value(doubleword_at(bytes, 0))
+}
+
+// The doubleword at an address.
 pub fn load64<'a>(starts: Starts, first: &'a [u8], second: &'a [u8], a: u64) -> Load
     requires { ⌜ Walkable starts (length (now first)) (length (now second)) ⌝ }
     ensures { λ r. ⌜ r ≡ memory (lent starts (now (first .entry)) (now (second .entry))) a ⌝ }
 {
-    let found = load_at(first, offset(starts.first, a));
-    let Load::Value(v) = found else {
-        return load_at(second, offset(starts.second, a));
-    };
-    Load::Value(v)
+    loaded(entry(starts, first, second, a, 8))
+}
+
+// The doubleword at an offset of one window, for a walk that stands in it.
+pub fn load_at(window: &[u8], d: u64) -> Load
+    ensures { λ r. ⌜ r ≡ loadAt (now (window .entry)) d ⌝ }
+{
+    loaded(part(window, d, 8))
 }
 
 // Bit k of a doubleword is 1.

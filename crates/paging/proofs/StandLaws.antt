@@ -242,7 +242,7 @@ module _ (s : Scheme) (t : LeafTest) (a : ℕ) (w : Window) where
             ∙ on-read n at next h (rawLoad t a n (Value (doubleword (w .bytes) (at - w .start)))) (ap (rawLoad t a n) (sym v))
         go false e = refl
 
-    near-run : (n at : ℕ) → codeOf (run m (rawFrom s t a n at)) ≡ resumed s t a m (nearWalk s t a w n at)
+    pub near-run : (n at : ℕ) → codeOf (run m (rawFrom s t a n at)) ≡ resumed s t a m (nearWalk s t a w n at)
     unfolding nearWalk rawLevels
     near-run zero at = near-step zero at (λ table. End faultyEnd) (λ k. refl)
     near-run (suc n) at = near-step (suc n) at (λ table. nearWalk s t a w n (table * 4096 + 8 * indexOf s a n)) (λ k. near-run n (k * 4096 + 8 * indexOf s a n))

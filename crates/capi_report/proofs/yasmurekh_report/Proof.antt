@@ -30,7 +30,7 @@ yasmurekh-report-spec =
     (λ c. search (room-ways, needs))
     (λ c κs. tt)
     (λ c. search needs)
-    (λ c κs. tt)
+    (λ c κs. search needs)
     (λ c κs. simp length-set (omega arith))
     slice-write-out-2
     same-length

@@ -8,7 +8,7 @@ report-spec =
     tie.close
     (tie.spec
     (λ c κs. search needs)
-    (λ c κs. search needs)
+    (λ c κs. search (report-ways, needs))
     (λ c κs. search (report-ways, needs))
     (λ c. search (report-ways, needs))
     (λ c κs. search needs)

@@ -1,4 +1,4 @@
-use Rattle.memory.proofs.Loads.{part-ways}
+use Rattle.memory.proofs.Offsets.{part-ways}
 use borrow.Author.Needs.{needs}
 use Rattle.memory.proofs.part.Statement.{statement}
 use Rattle.memory.proofs.part.Tie as tie
@@ -8,11 +8,10 @@ part-spec =
     tie.close
     (tie.spec
     (λ c κs. search needs)
-    (λ c. search (part-ways, needs))
-    (λ c. search (part-ways, needs))
     (λ c. search needs)
     (λ c. search needs)
-    (λ c. search (part-ways, needs))
+    (λ c. search needs)
+    (λ c. search needs)
     (λ c. search (part-ways, needs))
     (λ c. search needs)
     (λ c. search needs)
