@@ -29,7 +29,7 @@ pub fn is_file(start: u64, len: u64, file: u64) -> bool
     if file % 512 != 0 {
         return false;
     }
-    memory::within(start, len, file)
+    memory::within(start, len, file, 1)
 }
 
 // The index of the doubleword that holds an identity's pending bit; the pairs are 16 bytes apart.

@@ -9,6 +9,8 @@ use Rattle.memory.specs.Choice.{pick}
 use Rattle.memory.specs.declared.Load.{Load}
 use Rattle.memory.specs.declared.Starts.{Starts}
 use Rattle.memory.specs.Window.{lent, memory}
+use Rattle.memory.specs.Code.{Walkable, turnedStarts}
+use Rattle.memory.proofs.Order.{turned-memory, turned-walkable}
 use Rattle.memory.specs.Walk.{done, run}
 use Rattle.memory.proofs.Walks.{run-bind, then, at}
 use Rattle.causes.specs.Causes.{accessFault, faultAt, disallowed}
@@ -173,6 +175,30 @@ module _ (m : ℕ → Load) (s : Settings) (q : DeviceRequest) where
   mode-levels o h k e = e ∙ simp (ne-eqb (s .mode) 0 h, ne-eqb (s .mode) 1 k)
 
 pub ruleset mode-ways = (mode-off, mode-bare, mode-levels)
+
+-- the windows as they are handed on, us and vs from t on: in the other order, or as they came
+module _ (s : Settings) (q : DeviceRequest) (xs ys us vs : List ℕ) (t : Starts) where
+  pub order-turned : t ≡ turnedStarts (s .starts) → us ≡ ys → vs ≡ xs → Walkable (s .starts) (length xs) (length ys) → Walkable t (length us) (length vs)
+  order-turned ht hu hv w = rw (ht, hu, hv) (turned-walkable (s .starts) (length xs) (length ys) w)
+
+  pub order-kept : t ≡ s .starts → us ≡ xs → vs ≡ ys → Walkable (s .starts) (length xs) (length ys) → Walkable t (length us) (length vs)
+  order-kept ht hu hv w = rw (ht, hu, hv) w
+
+  module _ (r : Outcome) (e : r ≡ run (memory (lent t us vs)) (directoryOf (record { starts = t; mode = s .mode; root = s .root }) q)) where
+    pub run-turned : t ≡ turnedStarts (s .starts) → us ≡ ys → vs ≡ xs → Walkable (s .starts) (length xs) (length ys) → r ≡ run (memory (lent (s .starts) xs ys)) (directoryOf s q)
+    unfolding directoryOf
+    run-turned ht hu hv w =
+        e ∙ ap (λ (k : Starts). run (memory (lent k us vs)) (directoryOf s q)) ht
+        ∙ ap (λ (k : List ℕ). run (memory (lent (turnedStarts (s .starts)) k vs)) (directoryOf s q)) hu
+        ∙ ap (λ (k : List ℕ). run (memory (lent (turnedStarts (s .starts)) ys k)) (directoryOf s q)) hv
+        ∙ ap (λ (m : ℕ → Load). run m (directoryOf s q)) (turned-memory (s .starts) xs ys (w .apart))
+
+    pub run-kept : t ≡ s .starts → us ≡ xs → vs ≡ ys → r ≡ run (memory (lent (s .starts) xs ys)) (directoryOf s q)
+    unfolding directoryOf
+    run-kept ht hu hv =
+        e ∙ ap (λ (k : Starts). run (memory (lent k us vs)) (directoryOf s q)) ht
+        ∙ ap (λ (k : List ℕ). run (memory (lent (s .starts) k vs)) (directoryOf s q)) hu
+        ∙ ap (λ (k : List ℕ). run (memory (lent (s .starts) xs k)) (directoryOf s q)) hv
 
 -- the second stage's walk, by the number of its end
 pub second-by : (m : ℕ → Load) (g : PageTable) (x : Access) (a : ℕ) (t : Translation) (l : LeafTest) (n : ℕ) (r : Raw) → g .on ≡ true → l ≡ testOf x User

@@ -189,6 +189,28 @@ fn in_directory<'a>(s: Settings, q: DeviceRequest, first: &'a [u8], second: &'a 
     with_context(c, q, s.starts, first, second)
 }
 
+// The same in the order in which the window that holds the directory's root comes first, since that is where walks begin.
+fn in_order<'a>(s: Settings, q: DeviceRequest, first: &'a [u8], second: &'a [u8]) -> Outcome
+    requires { ⌜ (1 < s .mode) × (s .mode < 5) × (s .root < 2 ^ 44) × Walkable (s .starts) (length (now first)) (length (now second)) ⌝ }
+    ensures { λ r. ⌜ r ≡ run (memory (lent (s .starts) (now (first .entry)) (now (second .entry)))) (directoryOf s q) ⌝ }
+{
+    let starts = s.starts;
+    let mut near = first;
+    let mut far = second;
+    let mut order = starts;
+    if memory::within(starts.second, second.len() as u64, s.root * 4096, 1) {
+        near = second;
+        far = first;
+        order = memory::turned(starts);
+    }
+    let t = Settings {
+        starts: order,
+        mode: s.mode,
+        root: s.root,
+    };
+    in_directory(t, q, near, far)
+}
+
 // What the tables say of a request.
 pub fn translate<'a>(s: Settings, q: DeviceRequest, first: &'a [u8], second: &'a [u8]) -> Outcome
     requires { ⌜ (s .mode < 5) × (s .root < 2 ^ 44) × Walkable (s .starts) (length (now first)) (length (now second)) ⌝ }
@@ -204,5 +226,5 @@ pub fn translate<'a>(s: Settings, q: DeviceRequest, first: &'a [u8], second: &'a
     if s.mode == 1 {
         return untranslated(x, q.address);
     }
-    in_directory(s, q, first, second)
+    in_order(s, q, first, second)
 }

@@ -18,23 +18,6 @@ use Rattle.memory.specs.declared.Load.the-variants.{Value, Violation}
 use Rattle.memory.proofs.Truth.{and-true}
 use Rattle.memory.proofs.Choices.{yes-is, no-is}
 
--- the tests of `holds` in the code
-module _ (start len a size : ℕ) where
-  pub below : a < start → false ≡ inside start len a size
-  below h = simp (lt-leb start a h)
-
-  pub short : len < size → start ≤ a → false ≡ inside start len a size
-  short h k = simp (le-leb start a k, lt-leb (a + size) (start + len) (omega arith))
-
-  pub far : start ≤ a → size ≤ len → leb (a - start) (len - size) ≡ inside start len a size
-  far k j = go (leb (a - start) (len - size)) refl
-    where
-      go : (b : Bool) → leb (a - start) (len - size) ≡ b → b ≡ inside start len a size
-      go true e = simp (le-leb start a k, le-leb (a + size) (start + len) (let h = leb-true (a - start) (len - size) e in omega arith))
-      go false e = simp (le-leb start a k, lt-leb (a + size) (start + len) (let h = leb-false (a - start) (len - size) e in omega arith))
-
-pub ruleset holds-ways = (below, short, far)
-
 -- what a test that holds says of a part's ends
 module _ (start len a size : ℕ) (b : Bool) (hb : b ≡ inside start len a size) (t : b ≡ true) where
   both : (leb start a ≡ true) × (leb (a + size) (start + len) ≡ true)

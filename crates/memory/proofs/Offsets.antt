@@ -136,18 +136,18 @@ module _ (starts : Starts) (xs ys : List ℕ) (a d size : ℕ) (x : List ℕ) (s
 
 pub ruleset entry-ways = (entry-first, entry-second)
 
--- whether an address lies in a window, by its offset
-pub offset-within : (start len a d : ℕ) → start + len ≤ 2 ^ 64 → d < 2 ^ 64 → (d + start) % 2 ^ 64 ≡ a → ltb d len ≡ inside start len a 1
-offset-within start len a d end hd e = go (ltb d len) refl
+-- whether an entry lies in a window, by its offset and the window's room
+pub offset-within : (start len a size d r : ℕ) → 0 < size → start + len ≤ 2 ^ 64 → d < 2 ^ 64 → (d + start) % 2 ^ 64 ≡ a → r ≡ len + 1 - size → ltb d r ≡ inside start len a size
+offset-within start len a size d r some end hd e hr = go (ltb d r) refl
   where
-    outside : len ≤ d → (b : Bool) → inside start len a 1 ≡ b → false ≡ b
+    outside : r ≤ d → (b : Bool) → inside start len a size ≡ b → false ≡ b
     outside h false t = refl
-    outside h true t = let lo = held-low start len a 1 true (sym t) refl in let hi = held-high start len a 1 true (sym t) refl in absurd (omega (arith, e))
+    outside h true t = let lo = held-low start len a size true (sym t) refl in let hi = held-high start len a size true (sym t) refl in absurd (omega (arith, e, hr))
 
-    go : (b : Bool) → ltb d len ≡ b → b ≡ inside start len a 1
+    go : (b : Bool) → ltb d r ≡ b → b ≡ inside start len a size
     go true t =
-        let h = ltb-true d len t in
-        let lo : start ≤ a = omega (arith, e) in
-        let hi : a + 1 ≤ start + len = omega (arith, e) in
-        simp (le-leb start a lo, le-leb (a + 1) (start + len) hi)
-    go false t = outside (ltb-false d len t) (inside start len a 1) refl
+        let h = ltb-true d r t in
+        let lo : start ≤ a = omega (arith, e, hr) in
+        let hi : a + size ≤ start + len = omega (arith, e, hr) in
+        simp (le-leb start a lo, le-leb (a + size) (start + len) hi)
+    go false t = outside (ltb-false d r t) (inside start len a size) refl

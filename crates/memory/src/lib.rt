@@ -49,19 +49,6 @@ pub fn doubleword_at(bytes: &[u8], i: usize) -> u64
     )
 }
 
-// All of `size` bytes from an address lie in a window; no sum here can wrap.
-pub fn holds(start: u64, len: u64, a: u64, size: u64) -> bool
-    ensures { λ r. ⌜ r ≡ inside start len a size ⌝ }
-{
-    if a < start {
-        return false;
-    }
-    if len < size {
-        return false;
-    }
-    a - start <= len - size
-}
-
 // The starts in the other order.
 pub fn turned(starts: Starts) -> Starts
     ensures { λ r. ⌜ r ≡ turnedStarts starts ⌝ }
@@ -86,14 +73,6 @@ pub fn address(start: u64, d: u64) -> u64
     std::num::wrapping_add_u64(d, start)
 }
 
-// Whether an address lies in a window: one compare.
-pub fn within(start: u64, len: u64, a: u64) -> bool
-    requires { ⌜ start + len ≤ 2 ^ 64 ⌝ }
-    ensures { λ r. ⌜ r ≡ inside start len a 1 ⌝ }
-{
-    offset(start, a) < len
-}
-
 // How many offsets of a window have a whole entry behind them.
 fn room(len: u64, size: u64) -> u64
     requires { ⌜ 0 < size ⌝ }
@@ -103,6 +82,14 @@ fn room(len: u64, size: u64) -> u64
         return 0;
     }
     len - size + 1
+}
+
+// All of `size` bytes from an address lie in a window: one compare.
+pub fn within(start: u64, len: u64, a: u64, size: u64) -> bool
+    requires { ⌜ (0 < size) × (start + len ≤ 2 ^ 64) ⌝ }
+    ensures { λ r. ⌜ r ≡ inside start len a size ⌝ }
+{
+    offset(start, a) < room(len, size)
 }
 
 // The bytes of an entry at an offset, as a part of the window; none where it isn't whole in it. One compare.

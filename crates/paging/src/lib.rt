@@ -128,7 +128,7 @@ fn descend<'a>(
                 return end;
             }
             Stand::Left(level, low, place) => {
-                if !memory::holds(order.second, far.len() as u64, place, 8) {
+                if !memory::within(order.second, far.len() as u64, place, 8) {
                     return paging_entry::UNREAD;
                 }
                 n = level;
