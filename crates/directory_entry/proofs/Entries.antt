@@ -1,10 +1,10 @@
 -- A non-leaf entry, and the first doubleword of a context, over plain values; for both directories. Assumes nothing.
-use Prim.Native.Nat.{ℕ, _*_, _<_, _^_}
+use Prim.Native.Nat.{ℕ, _*_, _<_, _≤_, _^_}
 use native.Mathlib.Omega.{arith}
 use mathlib.Core.Bool.{Bool, true, false, not, _||_, _&&_}
-use mathlib.Core.Path.{_≡_, sym, ap, _∙_, subst}
+use mathlib.Core.Path.{_≡_, refl, sym, ap, _∙_, subst}
 use lib.Dec.{eqb, leb}
-use borrow.Author.Tests.{not-true, not-false}
+use borrow.Author.Tests.{not-true, not-false, eq-eqb, ne-eqb, le-leb, lt-leb}
 use Rattle.memory.specs.Choice.{pick}
 use Rattle.memory.specs.Bits.{bits, bit, anySet}
 use Rattle.memory.specs.declared.Load.{Load}
@@ -43,9 +43,28 @@ module _ (t : Tree) (i : ℕ) where
 
 pub ruleset leaf-ways = (leaf-device, leaf-process)
 
-pub wide-by : (t : Tree) (levels id i j : ℕ) → i ≡ directoryIndex t id 1 → j ≡ directoryIndex t id 2 → ((leb levels 1 && not (eqb i 0)) || (leb levels 2 && not (eqb j 0))) ≡ tooWide t levels id
+pub wide-all : (t : Tree) (levels id : ℕ) → 2 < levels → false ≡ tooWide t levels id
 unfolding tooWide
-wide-by t levels id i j hi hj = simp (hi, hj)
+wide-all t levels id h = simp (lt-leb levels 1 (omega arith), lt-leb levels 2 h)
+
+module _ (t : Tree) (levels id j : ℕ) (few : levels ≤ 2) (hj : j ≡ directoryIndex t id 2) where
+  pub wide-third : (j ≡ 0 → ⊥) → true ≡ tooWide t levels id
+  unfolding tooWide
+  wide-third h = simp (le-leb levels 2 few, ← hj, ne-eqb j 0 h) (sym (or-true (leb levels 1 && not (eqb (directoryIndex t id 1) 0))))
+    where
+      or-true : (b : Bool) → (b || true) ≡ true
+      or-true true = refl
+      or-true false = refl
+
+  pub wide-second : (i : ℕ) → j ≡ 0 → i ≡ directoryIndex t id 1 → (leb levels 1 && not (eqb i 0)) ≡ tooWide t levels id
+  unfolding tooWide
+  wide-second i h hi = simp (le-leb levels 2 few, ← hj, eq-eqb j 0 h, ← hi) (sym (or-false (leb levels 1 && not (eqb i 0))))
+    where
+      or-false : (b : Bool) → (b || false) ≡ b
+      or-false true = refl
+      or-false false = refl
+
+pub ruleset wide-ways = (wide-all, wide-third, wide-second)
 
 -- a non-leaf
 module _ (t : Tree) (v : Load) (f : FaultInfo) where

@@ -132,8 +132,13 @@ pub fn leaf_offset(t: Tree, i: u64) -> u64
 pub fn too_wide(t: Tree, levels: u64, id: u64) -> bool
     ensures { λ r. ⌜ r ≡ tooWide t levels id ⌝ }
 {
-    ((levels <= 1) & (directory_index(t, id, 1) != 0))
-        | ((levels <= 2) & (directory_index(t, id, 2) != 0))
+    if 2 < levels {
+        return false;
+    }
+    if directory_index(t, id, 2) != 0 {
+        return true;
+    }
+    (levels <= 1) & (directory_index(t, id, 1) != 0)
 }
 
 // Mode and page of iohgatp, fsc and msiptp.
