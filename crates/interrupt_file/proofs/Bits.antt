@@ -1,11 +1,11 @@
--- Laws of one bit of a number: what it is in the number with a bit set or clear, and the machine's `|` and `& !` of it. Assumes nothing.
+-- Laws of one bit of a number: what it is in the number with a bit set or clear, and the machine's `|` of it. Assumes nothing.
 use Prim.Native.Nat.{ℕ, zero, suc, _+_, _-_, _*_, _/_, _%_, _^_, _≤_, _<_}
 use mathlib.Core.List.{List}
-use mathlib.Core.Path.{_≡_, refl, ap, _∙_}
-use native.Mathlib.Nat.{pow-suc, mul-assoc, mod-eq-of-lt}
+use mathlib.Core.Path.{_≡_, refl, ap}
+use native.Mathlib.Nat.{pow-suc, mul-assoc}
 use native.Mathlib.Numerals.{one-add}
 use native.Mathlib.Omega.{arith}
-use lib.Bits.{bitOr, bitAnd, or-step, and-step, or-zero-r, and-mask}
+use lib.Bits.{bitOr, or-step, or-zero-r}
 use lib.ListN.{getD, set}
 use lib.Pow.{shr-shr, pow-lt}
 use Rattle.interrupt_file.specs.Bit.{bitAt, withBit, withoutBit}
@@ -27,6 +27,11 @@ bit-le : (k v : ℕ) → bitAt k v * 2 ^ k ≤ v
 bit-le zero v = rw bit-zero (omega arith)
 bit-le (suc k) v =
     rw (bit-suc, pow-suc) (omega (arith, bit-le k (v / 2), mul-assoc (bitAt k (v / 2)) (2 ^ k) 2))
+
+-- a bit that is 0 is clear
+pub low-kept : (k v : ℕ) → bitAt k v ≡ 0 → withoutBit k v ≡ v
+unfolding withoutBit
+low-kept k v e = rw e (omega arith)
 
 set-zero : (v : ℕ) → withBit 0 v ≡ v / 2 * 2 + 1
 unfolding withBit bitAt
@@ -70,28 +75,13 @@ bit-cleared-other (suc j) zero v h = simp (bit-suc, cleared-zero) (ap (bitAt j) 
 bit-cleared-other (suc j) (suc k) v h =
     simp (bit-suc, cleared-suc, half) (bit-cleared-other j k (v / 2) (λ e. h (ap suc e)))
 
--- as the machine has them: one bit of a number joined, and one left out of w ones
+-- as the machine has it: one bit of a number joined
 pub or-pow : (k v : ℕ) → bitOr v (2 ^ k) ≡ withBit k v
 or-pow zero v = rw (or-step v 1, or-zero-r, set-zero) (omega arith)
 or-pow (suc k) v =
     let h : 2 ^ suc k / 2 ≡ 2 ^ k = rw pow-suc (omega arith) in
     let e : 2 ^ suc k % 2 ≡ 0 = rw pow-suc (omega arith) in
     rw (or-step v (2 ^ suc k), h, e, or-pow k (v / 2), set-suc) (omega arith)
-
-and-pow : (w k v : ℕ) → k < w → v < 2 ^ w → bitAnd v (2 ^ w - 1 - 2 ^ k) ≡ withoutBit k v
-and-pow zero k v l p = absurd (omega arith)
-and-pow (suc w) zero v l p =
-    let q : v < 2 ^ w * 2 = rw pow-suc at p in
-    let a : bitAnd (v / 2) (2 ^ w - 1) ≡ v / 2 = and-mask (v / 2) w ∙ mod-eq-of-lt (omega arith) in
-    let h : (2 ^ suc w - 1 - 1) / 2 ≡ 2 ^ w - 1 = rw pow-suc (omega arith) in
-    let e : (2 ^ suc w - 1 - 1) % 2 ≡ 0 = rw pow-suc (omega arith) in
-    rw (and-step v (2 ^ suc w - 1 - 1), h, e, a, cleared-zero) (omega arith)
-and-pow (suc w) (suc k) v l p =
-    let q : v < 2 ^ w * 2 = rw pow-suc at p in
-    let s : 2 ^ k < 2 ^ w = pow-lt (omega arith) in
-    let h : (2 ^ suc w - 1 - 2 ^ suc k) / 2 ≡ 2 ^ w - 1 - 2 ^ k = rw (pow-suc 2 w, pow-suc 2 k) (omega arith) in
-    let e : (2 ^ suc w - 1 - 2 ^ suc k) % 2 ≡ 1 = rw (pow-suc 2 w, pow-suc 2 k) (omega arith) in
-    rw (and-step v (2 ^ suc w - 1 - 2 ^ suc k), h, e, and-pow w k (v / 2) (omega arith) (omega arith), cleared-suc) (omega arith)
 
 -- of a byte of a list
 pub power-lt : (k : ℕ) → 2 ^ (k % 8) < 256
@@ -100,6 +90,3 @@ power-lt k = pow-lt {i = k % 8} {j = 8} (omega arith)
 module _ (xs : List ℕ) (i k m : ℕ) where
   pub byte-set : m ≡ 2 ^ k → set xs i (bitOr (getD xs i 0) m) ≡ set xs i (withBit k (getD xs i 0))
   byte-set h = rw (h, or-pow)
-
-  pub byte-cleared : m ≡ 255 - 2 ^ k → k < 8 → getD xs i 0 < 256 → set xs i (bitAnd (getD xs i 0) m) ≡ set xs i (withoutBit k (getD xs i 0))
-  byte-cleared h l p = rw (h, and-pow 8 k (getD xs i 0) l p)

@@ -11,8 +11,8 @@ use lib.Seq.{getD-drop, getD-take}
 use Rattle.memory.specs.Window.{inside}
 use Rattle.memory.proofs.Truth.{and-true}
 use Rattle.memory.proofs.Pages.{whole}
-use Rattle.interrupt_file.specs.Bit.{bitAt, withBit, withoutBit}
-use Rattle.interrupt_file.specs.File.{isFile, placeOf, pendingOf, afterStore, afterTake}
+use Rattle.interrupt_file.specs.Bit.{withBit}
+use Rattle.interrupt_file.specs.File.{isFile, placeOf, afterStore}
 
 -- what `isFile` says
 pub record FileAt (start len file : ℕ) : Type 0 where
@@ -63,41 +63,24 @@ mid-set a n j f xs ys lj la e =
     rw (e, set-mid-at a n j xs _ lm, getD-take, getD-drop)
 
 -- the eight bytes at an index as they are lent, and the window when they are back
-abbrev lent : ℕ → List ℕ → List ℕ
+abbrev pub lent : ℕ → List ℕ → List ℕ
 lent at xs = midOf at (at + 8 - at) xs
 
-abbrev back : ℕ → List ℕ → List ℕ → List ℕ
+abbrev pub back : ℕ → List ℕ → List ℕ → List ℕ
 back at xs ys = putMid at (at + 8 - at) xs ys
 
 -- the doubleword at an index is that of an identity
-module _ (start : ℕ) (xs : List ℕ) (file n at : ℕ) (h : start + at + n % 64 / 8 ≡ placeOf file n) (w : at + 8 ≤ length xs) where
+module _ (start : ℕ) (xs : List ℕ) (file n at : ℕ) (h : start + at ≡ file + 16 * (n / 64)) (w : at + 8 ≤ length xs) where
   byte-is : at + n % 64 / 8 ≡ placeOf file n - start
   byte-is = omega arith
 
   bit-is : n % 64 % 8 ≡ n % 8
   bit-is = omega arith
 
-  changed : (f : ℕ → ℕ → ℕ) (ys : List ℕ) → ys ≡ set (lent at xs) (n % 64 / 8) (f (n % 64 % 8) (getD (lent at xs) (n % 64 / 8) 0))
-      → back at xs ys ≡ set xs (placeOf file n - start) (f (n % 8) (getD xs (placeOf file n - start) 0))
-  changed f ys q =
-      mid-set at (at + 8 - at) (n % 64 / 8) (f (n % 64 % 8)) xs ys (omega arith) (omega arith) q
-      ∙ ap (λ i. set xs i (f (n % 64 % 8) (getD xs i 0))) byte-is
-      ∙ ap (λ k. set xs (placeOf file n - start) (f k (getD xs (placeOf file n - start) 0))) bit-is
-
   pub stored : (ys : List ℕ) → ys ≡ set (lent at xs) (n % 64 / 8) (withBit (n % 64 % 8) (getD (lent at xs) (n % 64 / 8) 0))
       → back at xs ys ≡ afterStore start xs file n
   unfolding afterStore
-  stored ys q = changed withBit ys q
-
-  pub taken : (ys : List ℕ) → ys ≡ set (lent at xs) (n % 64 / 8) (withoutBit (n % 64 % 8) (getD (lent at xs) (n % 64 / 8) 0))
-      → back at xs ys ≡ afterTake start xs file n
-  unfolding afterTake
-  taken ys q = changed withoutBit ys q
-
-  pub was : (r : ℕ) → r ≡ bitAt (n % 64 % 8) (getD (lent at xs) (n % 64 / 8) 0) → r ≡ pendingOf start xs file n
-  unfolding pendingOf
-  was r q =
-      let l : n % 64 / 8 < at + 8 - at = omega arith in
-      q ∙ rw (getD-take {A = ℕ} (at + 8 - at) _ (n % 64 / 8) 0 l, getD-drop, byte-is, bit-is)
-
-pub ruleset changes = (stored, taken, was)
+  stored ys q =
+      mid-set at (at + 8 - at) (n % 64 / 8) (withBit (n % 64 % 8)) xs ys (omega arith) (omega arith) q
+      ∙ ap (λ i. set xs i (withBit (n % 64 % 8) (getD xs i 0))) byte-is
+      ∙ ap (λ k. set xs (placeOf file n - start) (withBit k (getD xs (placeOf file n - start) 0))) bit-is

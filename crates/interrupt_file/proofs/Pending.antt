@@ -1,16 +1,17 @@
 -- The pending bits of a window before and after a store and a take, for every file and identity. Assumes nothing.
-use Prim.Native.Nat.{ℕ, _+_, _-_, _*_, _/_, _%_, _≤_, _<_}
+use Prim.Native.Nat.{ℕ, zero, suc, _+_, _-_, _*_, _/_, _%_, _≤_, _<_}
 use mathlib.Core.Bool.{Bool, true, false}
-use mathlib.Core.List.{List}
+use mathlib.Core.List.{List, [], _∷_}
 use mathlib.Core.Path.{_≡_, refl, sym, ap, _∙_}
 use native.Mathlib.Omega.{arith}
+use native.Mathlib.Decide.{ℕ-discrete}
 use borrow.Author.Tests.{eqb-true, eqb-false}
 use lib.Dec.{eqb}
 use lib.ListN.{length, getD, set, length-set}
 use lib.Seq.{getD-set-same, getD-set-other}
 use Rattle.interrupt_file.specs.Bit.{bitAt, withBit, withoutBit}
 use Rattle.interrupt_file.specs.File.{isFile, byteOf, placeOf, pendingOf, afterStore, afterTake}
-use Rattle.interrupt_file.proofs.Bits.{bit-set, bit-set-other, bit-cleared, bit-cleared-other, bit-lt}
+use Rattle.interrupt_file.proofs.Bits.{bit-set, bit-set-other, bit-cleared, bit-cleared-other, bit-lt, low-kept}
 use Rattle.interrupt_file.proofs.Files.{file-at}
 
 -- an identity's byte lies among the file's 512
@@ -51,6 +52,13 @@ one-bit start len f g m n hf hg lm ln p q =
     let e = same-file start f g (byteOf m) (byteOf n) (F .after) (G .after) p (F .aligned) (G .aligned) (byte-lt m lm) (byte-lt n ln) in
     (e .0, same-identity m n (e .1) q)
 
+set-own : (xs : List ℕ) (k i : ℕ) → getD (set xs k (getD xs k 0)) i 0 ≡ getD xs i 0
+set-own [] k i = refl
+set-own (x ∷ xs) zero zero = refl
+set-own (x ∷ xs) zero (suc i) = refl
+set-own (x ∷ xs) (suc k) zero = refl
+set-own (x ∷ xs) (suc k) (suc i) = set-own xs k i
+
 module _ (start : ℕ) (xs : List ℕ) (file n : ℕ) where
   pub length-after-store : length (afterStore start xs file n) ≡ length xs
   unfolding afterStore
@@ -63,6 +71,20 @@ module _ (start : ℕ) (xs : List ℕ) (file n : ℕ) where
   pub pending-lt : pendingOf start xs file n < 2
   unfolding pendingOf
   pending-lt = bit-lt _ _
+
+  -- a take changes no byte but that of a bit that was 1
+  pub take-kept : (i : ℕ) → (i ≡ placeOf file n - start → pendingOf start xs file n ≡ 1 → ⊥) → getD (afterTake start xs file n) i 0 ≡ getD xs i 0
+  unfolding afterTake pendingOf
+  take-kept i h = go (ℕ-discrete i (placeOf file n - start))
+    where
+      zero-there : i ≡ placeOf file n - start → bitAt (n % 8) (getD xs (placeOf file n - start) 0) ≡ 0
+      zero-there e = omega (arith, bit-lt (n % 8) (getD xs (placeOf file n - start) 0), h e)
+
+      go : Dec (i ≡ placeOf file n - start) → getD (set xs (placeOf file n - start) (withoutBit (n % 8) (getD xs (placeOf file n - start) 0))) i 0 ≡ getD xs i 0
+      go (no d) = getD-set-other xs _ i _ 0 d
+      go (yes e) =
+          ap (λ (v : ℕ). getD (set xs (placeOf file n - start) v) i 0) (low-kept (n % 8) (getD xs (placeOf file n - start) 0) (zero-there e))
+          ∙ set-own xs (placeOf file n - start) i
 
   module _ (hf : isFile start (length xs) file ≡ true) (ln : n < 2048) where
     in-window : placeOf file n - start < length xs

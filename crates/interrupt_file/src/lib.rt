@@ -1,11 +1,15 @@
 // Interrupt files in lent memory.
 ghost use mathlib.Core.Bool.{true};
 ghost use mathlib.Core.Path.{_≡_};
-ghost use Prim.Native.Nat.{_+_, _/_, _%_, _^_, _≤_, _<_};
+ghost use Prim.Native.Nat.{_+_, _*_, _/_, _%_, _^_, _≤_, _<_};
+ghost use lib.Bits.{bitAnd};
 ghost use lib.Count.{ones as onesOf};
 ghost use lib.ListN.{length, getD, set};
-ghost use Rattle.interrupt_file.specs.Bit.{bitAt, withBit, withoutBit};
-ghost use Rattle.interrupt_file.specs.File.{isFile, placeOf, pendingOf, afterStore, afterTake};
+ghost use Rattle.memory.specs.Bits.{without};
+ghost use Rattle.memory.specs.Code.{eight};
+ghost use Rattle.memory.specs.Window.{doubleword};
+ghost use Rattle.interrupt_file.specs.Bit.{withBit};
+ghost use Rattle.interrupt_file.specs.File.{isFile, takenOf, afterStore, afterTakeMany};
 ghost use Rattle.interrupt_file.specs.Report.{fileReport, refusedReport};
 
 // 01: "32 pairs of doublewords, pending then enable".
@@ -32,12 +36,12 @@ pub fn is_file(start: u64, len: u64, file: u64) -> bool
     memory::within(start, len, file, 1)
 }
 
-// The index of the doubleword that holds an identity's pending bit; the pairs are 16 bytes apart.
-fn pending_at(start: u64, len: u64, file: u64, n: u64) -> usize
-    requires { ⌜ (isFile start len file ≡ true) × (n < 2048) ⌝ }
-    ensures { λ r. ⌜ (start + r + n % 64 / 8 ≡ placeOf file n) × (r + 8 ≤ len) ⌝ }
+// The index of a file's pending doubleword; the pairs are 16 bytes apart.
+fn pending_at(start: u64, len: u64, file: u64, d: u64) -> usize
+    requires { ⌜ (isFile start len file ≡ true) × (d < 32) ⌝ }
+    ensures { λ r. ⌜ (start + r ≡ file + 16 * d) × (r + 8 ≤ len) ⌝ }
 {
-    (file - start + 16 * (n / 64)) as usize
+    (file - start + 16 * d) as usize
 }
 
 // Sets bit k of a doubleword, which is bit k mod 8 of its byte k div 8.
@@ -50,17 +54,15 @@ fn set_bit(part: &mut [u8], k: u64)
     part[i] = b | 1u8 << (k % 8);
 }
 
-// Clears bit k of a doubleword, and gives what it was.
-fn clear_bit(part: &mut [u8], k: u64) -> u64
-    requires { ⌜ (length (now part) ≡ 8) × (k < 64) ⌝ }
-    ensures { λ r. ⌜ r ≡ bitAt (k % 8) (getD (now (part .entry)) (k / 8) 0) ⌝ }
-    ensures { λ _. ⌜ now (part .exit) ≡ set (now (part .entry)) (k / 8) (withoutBit (k % 8) (getD (now (part .entry)) (k / 8) 0)) ⌝ }
+// Clears the bits of a mask in a doubleword, and gives those that were 1: one load and one store.
+fn clear_bits(part: &mut [u8], mask: u64) -> u64
+    requires { ⌜ length (now part) ≡ 8 ⌝ }
+    ensures { λ r. ⌜ r ≡ bitAnd (doubleword (now (part .entry)) 0) mask ⌝ }
+    ensures { λ _. ⌜ now (part .exit) ≡ eight (without (doubleword (now (part .entry)) 0) mask) ⌝ }
 {
-    let i = (k / 8) as usize;
-    let b = part[i];
-    part[i] = b & !(1u8 << (k % 8));
-    let was = (b >> (k % 8)) % 2;
-    was as u64
+    let before = memory::doubleword_at(part, 0);
+    memory::put_doubleword(part, word::without(before, mask));
+    before & mask
 }
 
 // Makes an identity of a file pending: the bit setter is lent the eight bytes of its doubleword and no others.
@@ -68,18 +70,18 @@ pub fn store(start: u64, window: &mut [u8], file: u64, n: u64)
     requires { ⌜ (isFile start (length (now window)) file ≡ true) × (n < 2048) ⌝ }
     ensures { λ _. ⌜ now (window .exit) ≡ afterStore start (now (window .entry)) file n ⌝ }
 {
-    let at = pending_at(start, window.len() as u64, file, n);
+    let at = pending_at(start, window.len() as u64, file, n / 64);
     set_bit(&mut window[at..at + 8], n % 64);
 }
 
-// Makes an identity of a file pending no more, and gives 1 where it was, else 0.
-pub fn take(start: u64, window: &mut [u8], file: u64, n: u64) -> u64
-    requires { ⌜ (isFile start (length (now window)) file ≡ true) × (n < 2048) ⌝ }
-    ensures { λ r. ⌜ r ≡ pendingOf start (now (window .entry)) file n ⌝ }
-    ensures { λ _. ⌜ now (window .exit) ≡ afterTake start (now (window .entry)) file n ⌝ }
+// Makes the identities of a doubleword that are in a mask pending no more, and gives those that were.
+pub fn take_many(start: u64, window: &mut [u8], file: u64, d: u64, mask: u64) -> u64
+    requires { ⌜ (isFile start (length (now window)) file ≡ true) × (d < 32) ⌝ }
+    ensures { λ r. ⌜ r ≡ takenOf start (now (window .entry)) file d mask ⌝ }
+    ensures { λ _. ⌜ now (window .exit) ≡ afterTakeMany start (now (window .entry)) file d mask ⌝ }
 {
-    let at = pending_at(start, window.len() as u64, file, n);
-    clear_bit(&mut window[at..at + 8], n % 64)
+    let at = pending_at(start, window.len() as u64, file, d);
+    clear_bits(&mut window[at..at + 8], mask)
 }
 
 // How many bits of a doubleword are 1.

@@ -47,15 +47,15 @@ pub in-second : (starts : Starts) (n m file : ℕ) (b : Bool) → isLentFile sta
 in-second starts n m file b h hb o = simp (← hb, o) at h
 
 -- a take
-module _ (starts : Starts) (n m file i r : ℕ) (h : Takeable starts n m file i r) (z : r ≡ 0) where
+module _ (starts : Starts) (n m file d r : ℕ) (h : Takeable starts n m file d r) (z : r ≡ 0) where
   pub take-lent : isLentFile starts n m file ≡ true
-  take-lent = subst (Takeable starts n m file i) z h .0
+  take-lent = subst (Takeable starts n m file d) z h .0
 
-  pub take-identity : i < 2048
-  take-identity = subst (Takeable starts n m file i) z h .1
+  pub take-doubleword : d < 32
+  take-doubleword = subst (Takeable starts n m file d) z h .1
 
   pub take-walkable : Walkable starts n m
-  take-walkable = subst (Takeable starts n m file i) z h .2
+  take-walkable = subst (Takeable starts n m file d) z h .2
 
 -- a report
 pub report-lent : (starts : Starts) (n m file r : ℕ) → Reportable starts n m file r → r ≡ 0 → isLentFile starts n m file ≡ true

@@ -1,5 +1,5 @@
 -- The checks before the walk, by the tests that the code makes. Assumes nothing.
-use Prim.Native.Nat.{ℕ, zero, suc, _+_, _-_, _%_, _^_, _<_, _≤_}
+use Prim.Native.Nat.{ℕ, zero, suc, _+_, _-_, _/_, _%_, _^_, _<_, _≤_}
 use mathlib.Core.Bool.{Bool, true, false, not, _&&_, _||_}
 use mathlib.Core.List.{[], _∷_}
 use mathlib.Core.Path.{_≡_, refl, sym, ap, ap₂, subst, _∙_}
@@ -16,7 +16,7 @@ use Rattle.interrupt_file.specs.File.{isFile}
 use Rattle.iommu_refusals.proofs.Overlap.{apart-words}
 use Rattle.iommu_refusals.specs.declared.Settings.{Settings}
 use Rattle.iommu_refusals.specs.declared.DeviceRequest.{DeviceRequest}
-use Rattle.iommu_refusals.specs.Refusals.{check, badWindow, badWindows, overlap, isLentFile, badDirectory, badProcess, absent, badLength, requestRefusal, takeRefusal, reportRefusal}
+use Rattle.iommu_refusals.specs.Refusals.{check, badWindow, badWindows, overlap, isLentFile, badDirectory, badProcess, absent, badLength, requestRefusal, takeRefusal, takeManyRefusal, reportRefusal}
 use Rattle.iommu_refusals.specs.Code.{offPages, tooLarge, windowRefusal, Whole, Accepted, Takeable, Reportable}
 
 -- a number that the code gives is the definition's
@@ -331,9 +331,9 @@ pub files-walkable : (starts : Starts) (n m w : ℕ) → Whole starts n m w → 
 files-walkable starts n m w h z = subst (Whole starts n m) z h
 
 -- a take's and a report's checks in order
-module _ (starts : Starts) (n m file i w : ℕ) (hw : w ≡ windowRefusal starts n m) where
-  pub take-windows : (w ≡ 0 → ⊥) → w ≡ takeRefusal starts n m file i
-  unfolding takeRefusal
+module _ (starts : Starts) (n m file d w : ℕ) (hw : w ≡ windowRefusal starts n m) where
+  pub take-windows : (w ≡ 0 → ⊥) → w ≡ takeManyRefusal starts n m file d
+  unfolding takeManyRefusal
   take-windows z = windows-first starts n m w hw _ z
 
   pub report-windows : (w ≡ 0 → ⊥) → w ≡ reportRefusal starts n m file
@@ -341,17 +341,17 @@ module _ (starts : Starts) (n m file i w : ℕ) (hw : w ≡ windowRefusal starts
   report-windows z = windows-first starts n m w hw _ z
 
   module _ (z : w ≡ 0) (f : Bool) (hf : f ≡ isLentFile starts n m file) where
-    pub take-2008 : f ≡ false → 2008 ≡ takeRefusal starts n m file i
-    unfolding takeRefusal
+    pub take-2008 : f ≡ false → 2008 ≡ takeManyRefusal starts n m file d
+    unfolding takeManyRefusal
     take-2008 t = let good = windows-good starts n m w hw z in simp (good .0, good .1, ← hf, t)
 
-    pub take-2009 : f ≡ true → 2047 < i → 2009 ≡ takeRefusal starts n m file i
-    unfolding takeRefusal
-    take-2009 t k = let good = windows-good starts n m w hw z in simp (good .0, good .1, ← hf, t, lt-ltb 2047 i k)
+    pub take-2009 : f ≡ true → 31 < d → 2009 ≡ takeManyRefusal starts n m file d
+    unfolding takeManyRefusal
+    take-2009 t k = let good = windows-good starts n m w hw z in simp (good .0, good .1, ← hf, t, lt-ltb 31 d k)
 
-    pub take-passes : f ≡ true → i ≤ 2047 → 0 ≡ takeRefusal starts n m file i
-    unfolding takeRefusal
-    take-passes t k = let good = windows-good starts n m w hw z in simp (good .0, good .1, ← hf, t, le-ltb 2047 i k)
+    pub take-passes : f ≡ true → d ≤ 31 → 0 ≡ takeManyRefusal starts n m file d
+    unfolding takeManyRefusal
+    take-passes t k = let good = windows-good starts n m w hw z in simp (good .0, good .1, ← hf, t, le-ltb 31 d k)
 
     pub report-2008 : f ≡ false → 2008 ≡ reportRefusal starts n m file
     unfolding reportRefusal
@@ -364,8 +364,13 @@ module _ (starts : Starts) (n m file i w : ℕ) (hw : w ≡ windowRefusal starts
 pub is-a-file : (starts : Starts) (n m file : ℕ) (f : Bool) → f ≡ isLentFile starts n m file → f ≡ true → isLentFile starts n m file ≡ true
 is-a-file starts n m file f h t = sym h ∙ t
 
-pub is-identity : (n : ℕ) → n ≤ 2047 → n < 2048
-is-identity n h = omega arith
+pub is-doubleword : (d : ℕ) → d ≤ 31 → d < 32
+is-doubleword d h = omega arith
+
+-- a take of one identity is refused as a take of many of its doubleword is
+pub one-refusal : (starts : Starts) (n m file i : ℕ) → takeManyRefusal starts n m file (i / 64) ≡ takeRefusal starts n m file i
+unfolding takeManyRefusal takeRefusal
+one-refusal starts n m file i = rw (ltb-same 31 (i / 64) 2047 i (λ h. omega arith) (λ h. omega arith))
 
 -- a file in the first window, or else in the second
 module _ (starts : Starts) (n m file : ℕ) (a : Bool) (ha : a ≡ isFile (starts .first) n file) where
@@ -377,13 +382,13 @@ module _ (starts : Starts) (n m file : ℕ) (a : Bool) (ha : a ≡ isFile (start
 
 pub ruleset lent-file-ways = (file-first, file-second)
 
-pub untakeable : (starts : Starts) (n m file i w : ℕ) → (w ≡ 0 → ⊥) → Takeable starts n m file i w
-untakeable starts n m file i zero z = absurd (z refl)
-untakeable starts n m file i (suc w) z = tt
+pub untakeable : (starts : Starts) (n m file d w : ℕ) → (w ≡ 0 → ⊥) → Takeable starts n m file d w
+untakeable starts n m file d zero z = absurd (z refl)
+untakeable starts n m file d (suc w) z = tt
 
 pub unreportable : (starts : Starts) (n m file w : ℕ) → (w ≡ 0 → ⊥) → Reportable starts n m file w
 unreportable starts n m file zero z = absurd (z refl)
 unreportable starts n m file (suc w) z = tt
 
 pub ruleset file-checks =
-    (untakeable, unreportable, files-walkable, take-windows, take-2008, take-2009, take-passes, report-windows, report-2008, report-passes, is-a-file, is-identity)
+    (untakeable, unreportable, files-walkable, take-windows, take-2008, take-2009, take-passes, report-windows, report-2008, report-passes, is-a-file, is-doubleword)

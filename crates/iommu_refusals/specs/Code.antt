@@ -32,8 +32,8 @@ Accepted s n m zero = (s .mode < 5) × (s .root < 2 ^ 44) × Walkable (s .starts
 Accepted s n m (suc r) = Unit {0}
 
 abbrev pub Takeable : Starts → ℕ → ℕ → ℕ → ℕ → ℕ → Type 0
-Takeable starts n m file i zero = (isLentFile starts n m file ≡ true) × (i < 2048) × Walkable starts n m
-Takeable starts n m file i (suc r) = Unit {0}
+Takeable starts n m file d zero = (isLentFile starts n m file ≡ true) × (d < 32) × Walkable starts n m
+Takeable starts n m file d (suc r) = Unit {0}
 
 abbrev pub Reportable : Starts → ℕ → ℕ → ℕ → ℕ → Type 0
 Reportable starts n m file zero = (isLentFile starts n m file ≡ true) × Walkable starts n m

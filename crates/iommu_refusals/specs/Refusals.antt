@@ -61,7 +61,7 @@ requestRefusal s n m q =
     ∷ check 2006 (badLength (q .address) (q .length))
     ∷ [])
 
--- "Takes check 2001, 2008, 2009", with 2011 "checked just after 2001"
+-- "Takes check 2001, 2008, 2009", with 2011 "checked just after 2001"; of one identity, "with 2009 as before" (02, Req 12)
 unfoldable pub takeRefusal : Starts → ℕ → ℕ → ℕ → ℕ → ℕ
 takeRefusal starts n m file identity =
     firstBad
@@ -69,6 +69,16 @@ takeRefusal starts n m file identity =
     ∷ check 2011 (overlap starts n m)
     ∷ check 2008 (not (isLentFile starts n m file))
     ∷ check 2009 (ltb 2047 identity)
+    ∷ [])
+
+-- of many: "Refusal 2009 now means a doubleword number above 31" (02, Req 12)
+unfoldable pub takeManyRefusal : Starts → ℕ → ℕ → ℕ → ℕ → ℕ
+takeManyRefusal starts n m file d =
+    firstBad
+    (check 2001 (badWindows starts n m)
+    ∷ check 2011 (overlap starts n m)
+    ∷ check 2008 (not (isLentFile starts n m file))
+    ∷ check 2009 (ltb 31 d)
     ∷ [])
 
 -- "reports 2001, 2008", and 2011 likewise

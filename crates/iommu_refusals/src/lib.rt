@@ -7,7 +7,7 @@ ghost use mathlib.Core.Bool.{_&&_};
 ghost use lib.Dec.{leb};
 ghost use Prim.Native.Nat.{_+_, _^_, _<_};
 ghost use Rattle.memory.specs.Code.{Walkable};
-ghost use Rattle.iommu_refusals.specs.Refusals.{badWindows, overlap, isLentFile, badDirectory, badProcess, absent, badLength, requestRefusal, takeRefusal, reportRefusal};
+ghost use Rattle.iommu_refusals.specs.Refusals.{badWindows, overlap, isLentFile, badDirectory, badProcess, absent, badLength, requestRefusal, takeManyRefusal, reportRefusal};
 ghost use Rattle.iommu_refusals.specs.Code.{offPages, tooLarge, windowRefusal, Whole, Accepted, Takeable, Reportable};
 
 // Where the two windows start, and the device directory. A window's length is that of its lent bytes.
@@ -166,16 +166,16 @@ pub fn request_refusal(s: Settings, n: u64, m: u64, q: DeviceRequest) -> u64
     PASSED
 }
 
-// The number of the first check that a take fails, or 0.
-pub fn take_refusal(starts: Starts, n: u64, m: u64, file: u64, identity: u64) -> u64
-    ensures { λ r. ⌜ (r ≡ takeRefusal starts n m file identity) × Takeable starts n m file identity r ⌝ }
+// The number of the first check that a take of many fails, or 0; that of one fails the same, with the doubleword of its identity.
+pub fn take_many_refusal(starts: Starts, n: u64, m: u64, file: u64, d: u64) -> u64
+    ensures { λ r. ⌜ (r ≡ takeManyRefusal starts n m file d) × Takeable starts n m file d r ⌝ }
 {
     let w = window_refusal(starts, n, m);
     if w != PASSED {
         return w;
     }
     if is_lent_file(starts, n, m, file) {
-        if 2047 < identity {
+        if 31 < d {
             return 2009;
         }
         return PASSED;

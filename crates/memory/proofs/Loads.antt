@@ -1,17 +1,17 @@
 -- An entry's bytes and the doublewords in them, over both windows. Assumes nothing.
-use Prim.Native.Nat.{ℕ, _+_, _-_, _^_, _≤_, _<_}
+use Prim.Native.Nat.{ℕ, _+_, _-_, _/_, _%_, _^_, _≤_, _<_}
 use mathlib.Core.Bool.{Bool, true, false}
-use mathlib.Core.List.{List, []}
+use mathlib.Core.List.{List, [], _∷_}
 use mathlib.Core.Path.{_≡_, refl, sym, ap, ap₂, subst, _∙_}
 use native.Mathlib.Nat.{add-zero}
 use native.Mathlib.Omega.{arith}
 use borrow.Author.Tests.{le-leb, lt-leb, leb-true, leb-false, ltb-true, ltb-false}
 use lib.Dec.{leb, ltb}
-use lib.ListN.{length, getD, take, drop, length-drop}
+use lib.ListN.{length, getD, set, take, drop, length-drop}
 use lib.Seq.{length-take-le, getD-take, getD-drop}
 use Rattle.memory.specs.Choice.{pick}
 use Rattle.memory.specs.Window.{inside, doubleword, Window, Lent, lent, holds, partOf, memory}
-use Rattle.memory.specs.Code.{loadOf}
+use Rattle.memory.specs.Code.{eight, loadOf}
 use Rattle.memory.specs.declared.Starts.{Starts}
 use Rattle.memory.specs.declared.Load.{Load}
 use Rattle.memory.specs.declared.Load.the-variants.{Value, Violation}
@@ -37,6 +37,22 @@ pub same-doubleword : (xs ys : List ℕ) (i j : ℕ) → ((k : ℕ) → k < 8 �
 same-doubleword xs ys i j h =
     let b0 : getD xs i 0 ≡ getD ys j 0 = ap (λ n. getD xs n 0) (sym (add-zero i)) ∙ h 0 (omega arith) ∙ ap (λ n. getD ys n 0) (add-zero j) in
     rw (b0, h 1 (omega arith), h 2 (omega arith), h 3 (omega arith), h 4 (omega arith), h 5 (omega arith), h 6 (omega arith), h 7 (omega arith))
+
+-- eight bytes that are each written
+pub eight-put : (xs : List ℕ) (v : ℕ) → length xs ≡ 8
+    → set (set (set (set (set (set (set (set xs 0 (v % 256)) 1 (v / 2 ^ 8 % 256)) 2 (v / 2 ^ 16 % 256)) 3 (v / 2 ^ 24 % 256)) 4 (v / 2 ^ 32 % 256)) 5 (v / 2 ^ 40 % 256)) 6 (v / 2 ^ 48 % 256)) 7 (v / 2 ^ 56 % 256)
+    ≡ eight v
+unfolding eight
+eight-put (a ∷ b ∷ c ∷ d ∷ e ∷ f ∷ g ∷ h ∷ []) v l = refl
+eight-put [] v l = absurd (omega arith)
+eight-put (a ∷ []) v l = absurd (omega arith)
+eight-put (a ∷ b ∷ []) v l = absurd (omega arith)
+eight-put (a ∷ b ∷ c ∷ []) v l = absurd (omega arith)
+eight-put (a ∷ b ∷ c ∷ d ∷ []) v l = absurd (omega arith)
+eight-put (a ∷ b ∷ c ∷ d ∷ e ∷ []) v l = absurd (omega arith)
+eight-put (a ∷ b ∷ c ∷ d ∷ e ∷ f ∷ []) v l = absurd (omega arith)
+eight-put (a ∷ b ∷ c ∷ d ∷ e ∷ f ∷ g ∷ []) v l = absurd (omega arith)
+eight-put (a ∷ b ∷ c ∷ d ∷ e ∷ f ∷ g ∷ h ∷ i ∷ xs) v l = absurd (omega arith)
 
 -- a doubleword of an entry is one of the window
 pub part-word : (xs : List ℕ) (i size k : ℕ) → k + 8 ≤ size → doubleword (take size (drop i xs)) k ≡ doubleword xs (i + k)

@@ -4,7 +4,7 @@ ghost use Prim.Native.Nat.{_+_, _-_, _%_, _^_, _≤_, _<_};
 ghost use lib.ListN.{length};
 ghost use Rattle.memory.specs.Bits.{bit as bitOf, bits, anySet};
 ghost use Rattle.memory.specs.Window.{inside, little, doubleword, lent, partOf, memory};
-ghost use Rattle.memory.specs.Code.{Walkable, partAt, loadOf, loadAt, turnedStarts};
+ghost use Rattle.memory.specs.Code.{Walkable, eight, partAt, loadOf, loadAt, turnedStarts};
 
 // Where the two windows start.
 pub struct Starts {
@@ -47,6 +47,21 @@ pub fn doubleword_at(bytes: &[u8], i: usize) -> u64
         bytes[i + 6],
         bytes[i + 7],
     )
+}
+
+// Puts a doubleword into eight bytes, the lowest first: this form becomes one machine store.
+pub fn put_doubleword(bytes: &mut [u8], v: u64)
+    requires { ⌜ length (now bytes) ≡ 8 ⌝ }
+    ensures { λ _. ⌜ now (bytes .exit) ≡ eight v ⌝ }
+{
+    bytes[0] = (v % 256) as u8;
+    bytes[1] = (v / 256 % 256) as u8;
+    bytes[2] = (v / 65536 % 256) as u8;
+    bytes[3] = (v / 16777216 % 256) as u8;
+    bytes[4] = (v / 4294967296 % 256) as u8;
+    bytes[5] = (v / 1099511627776 % 256) as u8;
+    bytes[6] = (v / 281474976710656 % 256) as u8;
+    bytes[7] = (v / 72057594037927936 % 256) as u8;
 }
 
 // The starts in the other order.

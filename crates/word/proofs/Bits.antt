@@ -116,7 +116,7 @@ pub bit-one : (i n : ℕ) → n < 64 → bit i (1 * 2 ^ n % 2 ^ 64) ≡ eqb i n
 bit-one i n l = rw (one-mul, mod-eq-of-lt (pow-lt l)) (bit-pow i n)
 
 -- a number moved up
-bit-shr : (j k x : ℕ) → bit j (x / 2 ^ k) ≡ bit (k + j) x
+pub bit-shr : (j k x : ℕ) → bit j (x / 2 ^ k) ≡ bit (k + j) x
 unfolding contains
 bit-shr j k x = rw (shr-shr x k j)
 
@@ -156,6 +156,33 @@ word-low zero x = omega arith
 word-low (suc n) x =
     let t : wordOf n (λ j. bit (suc j) x) ≡ x / 2 % 2 ^ n = word-ext n _ _ (λ j l. bit-suc j x) ∙ sym (word-low n (x / 2)) in
     rw (t, bit-zero, digit-odd, pow-suc) (mod-mul x (pow-pos n) (omega arith))
+
+digit-lt : (b : Bool) → digit b < 2
+digit-lt true = omega arith
+digit-lt false = omega arith
+
+-- its digits are those that it was made of
+pub word-bit : (n k : ℕ) (f : ℕ → Bool) → k < n → bit k (wordOf n f) ≡ f k
+unfolding wordOf
+word-bit zero k f l = absurd (omega arith)
+word-bit (suc n) zero f l = bit-zero _ ∙ ap (λ (y : ℕ). eqb y 1) (low-digit _ (digit (f 0)) (digit-lt (f 0))) ∙ go (f 0)
+  where
+    go : (b : Bool) → eqb (digit b) 1 ≡ b
+    go true = refl
+    go false = refl
+word-bit (suc n) (suc k) f l = bit-suc k _ ∙ ap (bit k) (halved _ (digit (f 0)) (digit-lt (f 0))) ∙ word-bit n k (λ j. f (suc j)) (omega arith)
+
+pub word-lt : (n : ℕ) (f : ℕ → Bool) → wordOf n f < 2 ^ n
+unfolding wordOf
+word-lt zero f = omega arith
+word-lt (suc n) f = rw pow-suc (omega (arith, word-lt n (λ j. f (suc j)), digit-lt (f 0)))
+
+-- numbers of n bits are told by their digits
+pub same-bits : (n x y : ℕ) → x < 2 ^ n → y < 2 ^ n → ((k : ℕ) → k < n → bit k x ≡ bit k y) → x ≡ y
+same-bits n x y p q h = sym (mod-eq-of-lt p) ∙ word-low n x ∙ word-ext n _ _ h ∙ sym (word-low n y) ∙ mod-eq-of-lt q
+
+pub bit-mod : (n k x : ℕ) → k < n → bit k (x % 2 ^ n) ≡ bit k x
+bit-mod n k x l = ap (bit k) (word-low n x) ∙ word-bit n k (λ j. bit j x) l
 
 pub word-at : (k n x : ℕ) → x / 2 ^ k % 2 ^ n ≡ wordOf n (λ j. bit (k + j) x)
 word-at k n x = word-low n (x / 2 ^ k) ∙ word-ext n _ _ (λ j l. bit-shr j k x)
