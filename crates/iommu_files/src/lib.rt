@@ -11,7 +11,7 @@ ghost use Rattle.memory.specs.Window.{Leaves};
 ghost use Rattle.memory.specs.Code.{Walkable};
 ghost use Rattle.iommu_refusals.specs.Refusals.{isLentFile};
 ghost use Rattle.iommu_files.specs.Answers.{numbers as numbersBy, numbersOf, Answered};
-ghost use Rattle.iommu_files.specs.Files.{pendingAt, takenAt, takeOf, afterTakeOf, reportOf};
+ghost use Rattle.iommu_files.specs.Files.{answeredAt, manyTakenAt, takeOf, afterTakeOf, takeManyOf, afterTakeManyOf, reportOf};
 
 // What a request or a take is answered.
 pub enum Answer {
@@ -63,31 +63,58 @@ fn numbered(kind: u64, first: u64) -> Numbers
     }
 }
 
-// Clears the pending bit of a file's identity in whichever window holds the file, and gives what it was.
-fn take_lent(starts: Starts, first: &mut [u8], second: &mut [u8], file: u64, identity: u64) -> u64
-    requires { ⌜ (isLentFile starts (length (now first)) (length (now second)) file ≡ true) × (identity < 2048) × Walkable starts (length (now first)) (length (now second)) ⌝ }
-    ensures answer { λ r. ⌜ r ≡ pendingAt starts (now (first .entry)) (now (second .entry)) file identity ⌝ }
-    ensures bytes { λ _. ⌜ Leaves (takenAt starts (now (first .entry)) (now (second .entry)) file identity) (now (first .exit)) (now (second .exit)) ⌝ }
+// Clears pending bits of a doubleword of a file, in whichever window holds it, and gives those that were 1.
+fn take_lent(
+    starts: Starts,
+    first: &mut [u8],
+    second: &mut [u8],
+    file: u64,
+    d: u64,
+    mask: u64,
+) -> u64
+    requires { ⌜ (isLentFile starts (length (now first)) (length (now second)) file ≡ true) × (d < 32) × Walkable starts (length (now first)) (length (now second)) ⌝ }
+    ensures answer { λ r. ⌜ r ≡ answeredAt starts (now (first .entry)) (now (second .entry)) file d mask ⌝ }
+    ensures bytes { λ _. ⌜ Leaves (manyTakenAt starts (now (first .entry)) (now (second .entry)) file d mask) (now (first .exit)) (now (second .exit)) ⌝ }
 {
     if interrupt_file::is_file(starts.first, first.len() as u64, file) {
-        return interrupt_file::take(starts.first, first, file, identity);
+        return interrupt_file::take_many(starts.first, first, file, d, mask);
     }
-    interrupt_file::take(starts.second, second, file, identity)
+    interrupt_file::take_many(starts.second, second, file, d, mask)
 }
 
-// Takes a pending interrupt of a file.
+// Takes the pending interrupts of a doubleword of a file that are in a mask: bit k of doubleword d is identity 64 d + k.
+pub fn take_many(
+    starts: Starts,
+    first: &mut [u8],
+    second: &mut [u8],
+    file: u64,
+    d: u64,
+    mask: u64,
+) -> Answer
+    ensures answer { λ r. ⌜ Answered r (takeManyOf starts (now (first .entry)) (now (second .entry)) file d mask) ⌝ }
+    ensures bytes { λ _. ⌜ Leaves (afterTakeManyOf starts (now (first .entry)) (now (second .entry)) file d mask) (now (first .exit)) (now (second .exit)) ⌝ }
+{
+    let n = first.len() as u64;
+    let m = second.len() as u64;
+    let refusal = iommu_refusals::take_many_refusal(starts, n, m, file, d);
+    if refusal == 0 {
+        let were = take_lent(starts, first, second, file, d, mask);
+        return Answer::Taken(were);
+    }
+    Answer::Refused(refusal)
+}
+
+// Takes a pending interrupt of a file: one of many.
 pub fn take(starts: Starts, first: &mut [u8], second: &mut [u8], file: u64, identity: u64) -> Answer
     ensures answer { λ r. ⌜ Answered r (takeOf starts (now (first .entry)) (now (second .entry)) file identity) ⌝ }
     ensures bytes { λ _. ⌜ Leaves (afterTakeOf starts (now (first .entry)) (now (second .entry)) file identity) (now (first .exit)) (now (second .exit)) ⌝ }
 {
-    let n = first.len() as u64;
-    let m = second.len() as u64;
-    let refusal = iommu_refusals::take_refusal(starts, n, m, file, identity);
-    if refusal == 0 {
-        let was = take_lent(starts, first, second, file, identity);
-        return Answer::Taken(was);
-    }
-    Answer::Refused(refusal)
+    let k = identity % 64;
+    let made = take_many(starts, first, second, file, identity / 64, 1 << k);
+    let Answer::Taken(were) = made else {
+        return made;
+    };
+    Answer::Taken(were >> k)
 }
 
 // Reports a file: its pairs of doublewords, and how many identities are pending.

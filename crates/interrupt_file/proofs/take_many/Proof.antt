@@ -4,40 +4,7 @@ use Rattle.interrupt_file.proofs.Bytes.{Bytes}
 use borrow.Author.Needs.{needs}
 use Rattle.interrupt_file.proofs.take_many.Statement.{statement}
 use Rattle.interrupt_file.proofs.take_many.Tie as tie
-use Rattle.interrupt_file.proofs.take_many.Reads as reads
-use Rattle.interrupt_file.proofs.take_many.Lts as lts
-use Rattle.interrupt_file.proofs.clear_bits.Reads as clear-bits-reads
-use Rattle.interrupt_file.proofs.pending_at.Reads as pending-at-reads
 
--- src/lib.rt:83:9
-pending-at-requires : tie.Need-pending-at-requires
-pending-at-requires c κs = search needs
-
--- src/lib.rt:84:32
-add-clear-bits : tie.Need-add-clear-bits
-add-clear-bits c = search needs
-
--- src/lib.rt:84:16
-sub-clear-bits : tie.Need-sub-clear-bits
-sub-clear-bits c = search needs
-
--- src/lib.rt:84:16
-part-clear-bits-start : tie.Need-part-clear-bits-start
-part-clear-bits-start c = search needs
-
--- src/lib.rt:84:16
-part-clear-bits-end : tie.Need-part-clear-bits-end
-part-clear-bits-end c = search needs
-
--- src/lib.rt:84:5
-clear-bits-requires : tie.Need-clear-bits-requires
-clear-bits-requires c κs = search needs
-
--- src/lib.rt:78:1
-same-length : tie.Need-same-length
-same-length c = search needs
-
--- src/lib.rt:78:1
 returns : tie.Need-returns
 returns c =
     let at = c .before .before .before .before in
@@ -55,11 +22,11 @@ pub take-many-spec : {M : Type 1} → statement M
 take-many-spec =
     tie.close
     (tie.spec
-    pending-at-requires
-    add-clear-bits
-    sub-clear-bits
-    part-clear-bits-start
-    part-clear-bits-end
-    clear-bits-requires
-    same-length
+    (λ c κs. search needs)
+    (λ c. search needs)
+    (λ c. search needs)
+    (λ c. search needs)
+    (λ c. search needs)
+    (λ c κs. search needs)
+    (λ c. search needs)
     returns)
