@@ -3,10 +3,11 @@ use Prim.Native.Nat.{ℕ, zero, suc, _+_, _-_, _*_, _/_, _%_, _^_, _≤_, _<_}
 use mathlib.Core.Bool.{Bool, true, false, not, _&&_}
 use mathlib.Core.List.{List, [], _∷_, _++_}
 use mathlib.Core.Path.{_≡_, refl, sym, ap, ap₂, subst, _∙_}
+use mathlib.Core.Logic.{_⊎_, inl, inr}
 use native.Mathlib.Nat.{add-zero, div-one, mod-eq-of-lt, mod-lt, one-mul, zero-mul}
 use native.Mathlib.Omega.{arith}
 use native.Mathlib.Decide.{ℕ-discrete, decLt}
-use borrow.Author.Tests.{eq-eqb, ne-eqb}
+use borrow.Author.Tests.{eq-eqb, ne-eqb, eqb-true, eqb-false}
 use borrow.Rule.Slice.PartMut.{postOf, same-len-mid, mid-len, take-put, drop-put}
 use lib.Dec.{eqb}
 use lib.Bits.{bitAnd, and-le-l}
@@ -18,8 +19,9 @@ use Rattle.memory.specs.Choice.{pick}
 use Rattle.memory.specs.Code.{eight}
 use Rattle.memory.specs.Window.{doubleword}
 use Rattle.memory.proofs.Loads.{part-word}
+use Rattle.memory.proofs.Truth.{and-true}
 use Rattle.word.specs.Word.{contains, wordOf}
-use Rattle.word.proofs.Bits.{bit-and, bit-without, bit-pow, bit-mod, bit-shr, word-low, word-ext, same-bits, zero-digit}
+use Rattle.word.proofs.Bits.{bit-and, bit-without, bit-pow, bit-mod, bit-shr, word-low, word-ext, word-bit, same-bits, zero-digit}
 use Rattle.interrupt_file.specs.Bit.{bitAt}
 use Rattle.interrupt_file.specs.File.{isFile, placeOf, pendingOf, afterTake, takenOf, takenTo, afterTakeMany}
 use Rattle.interrupt_file.proofs.Bytes.{Bytes, take-bytes, doubleword-lt}
@@ -122,6 +124,58 @@ module _ (start : ℕ) (xs : List ℕ) (file d mask : ℕ) where
             ∙ ih (omega arith))
             (λ c. ih (omega arith))
 
+    -- the answered bits, and the pending bits after: each answered one is 0, and every other as it was
+    pub answered-bit : (k : ℕ) → k < 64 → contains (takenOf start xs file d mask) k ≡ (contains mask k && eqb (pendingOf start xs file (64 * d + k)) 1)
+    unfolding takenOf
+    answered-bit k l = word-bit 64 k (λ j. contains mask j && eqb (pendingOf start xs file (64 * d + j)) 1) l
+
+    abbrev strikes : ℕ → ℕ → Bool
+    strikes g m = eqb file g && (eqb d (m / 64) && contains (takenOf start xs file d mask) (m % 64))
+
+    pub pending-after : (g m : ℕ) → isFile start (length xs) g ≡ true → m < 2048
+        → pendingOf start (afterTakeMany start xs file d mask) g m ≡ pick (strikes g m) 0 (pendingOf start xs g m)
+    pending-after g m hg lm = by-file (ℕ-discrete file g) (ℕ-discrete d (m / 64))
+      where
+        split : d ≡ m / 64 → m ≡ 64 * d + m % 64
+        split e = omega arith
+
+        elsewhere : (file ≡ g → ⊥) ⊎ (d ≡ m / 64 → ⊥) → (r : ℕ) → r < 64 → contains mask r ≡ true → g ≡ file → m ≡ 64 * d + r → ⊥
+        elsewhere (inl h) r l c x y = h (sym x)
+        elsewhere (inr h) r l c x y = h (omega arith)
+
+        here : file ≡ g → d ≡ m / 64 → (a b : Bool) → contains mask (m % 64) ≡ a → eqb (pendingOf start xs g m) 1 ≡ b
+            → pendingOf start (to 64) g m ≡ pick (a && b) 0 (pendingOf start xs g m)
+        here x y true b e f =
+            let z : pendingOf start (to 64) g m ≡ 0 = ap₂ (λ (h i : ℕ). pendingOf start (to 64) h i) (sym x) (split y) ∙ pending-cleared 64 (m % 64) (omega arith) (omega arith) e in
+            was b f z
+          where
+            was : (b : Bool) → eqb (pendingOf start xs g m) 1 ≡ b → pendingOf start (to 64) g m ≡ 0 → pendingOf start (to 64) g m ≡ pick b 0 (pendingOf start xs g m)
+            was true f z = z
+            was false f z = omega (arith, z, eqb-false (pendingOf start xs g m) 1 f, pending-lt start xs g m)
+        here x y false b e f =
+            pending-left g m hg lm 64 (omega arith) (λ r l c p q. true-false (sym c ∙ ap (contains mask) (let o : r ≡ m % 64 = omega arith in o) ∙ e))
+
+        own : file ≡ g → d ≡ m / 64 → contains (takenOf start xs file d mask) (m % 64) ≡ (contains mask (m % 64) && eqb (pendingOf start xs g m) 1)
+        own x y =
+            answered-bit (m % 64) (omega arith)
+            ∙ ap (λ (v : ℕ). contains mask (m % 64) && eqb v 1) (ap₂ (λ (h i : ℕ). pendingOf start xs h i) x (sym (split y)))
+
+        by-file : Dec (file ≡ g) → Dec (d ≡ m / 64) → pendingOf start (to 64) g m ≡ pick (strikes g m) 0 (pendingOf start xs g m)
+        by-file (yes x) (yes y) = rw (eq-eqb file g x, eq-eqb d (m / 64) y, own x y) (here x y _ _ refl refl)
+        by-file (yes x) (no y) = rw (eq-eqb file g x, ne-eqb d (m / 64) y) (pending-left g m hg lm 64 (omega arith) (elsewhere (inr y)))
+        by-file (no x) y = rw (ne-eqb file g x) (pending-left g m hg lm 64 (omega arith) (elsewhere (inl x)))
+
+    -- an answered bit was pending
+    pub struck-pending : (g m : ℕ) → strikes g m ≡ true → pendingOf start xs g m ≡ 1
+    struck-pending g m e =
+        let p = and-true (eqb file g) _ e in
+        let q = and-true (eqb d (m / 64)) _ (p .1) in
+        let r = and-true (contains mask (m % 64)) _ (sym (answered-bit (m % 64) (omega arith)) ∙ q .1) in
+        let x = eqb-true file g (p .0) in
+        let y = eqb-true d (m / 64) (q .0) in
+        let s : 64 * d + m % 64 ≡ m = omega arith in
+        ap₂ (λ (h i : ℕ). pendingOf start xs h i) (sym x) (sym s) ∙ eqb-true (pendingOf start xs file (64 * d + m % 64)) 1 (r .1)
+
     -- "no byte but one with an answered bit changes"
     pub byte-kept : (i k : ℕ) → k ≤ 64
         → ((r : ℕ) → r < k → contains mask r ≡ true → pendingOf start xs file (64 * d + r) ≡ 1 → i ≡ placeOf file (64 * d + r) - start → ⊥)
@@ -192,13 +246,13 @@ module _ (start : ℕ) (xs : List ℕ) (file d mask : ℕ) where
       bit-after : (j k : ℕ) → j < 8 → k < 8 → contains (getD (to 64) (at + j) 0) k ≡ (contains before (8 * j + k) && not (contains mask (8 * j + k)))
       bit-after j k lj lk = bit-pending j k lj lk ∙ go (contains mask (8 * j + k)) refl
         where
-          and-true : (b : Bool) → b ≡ (b && true)
-          and-true true = refl
-          and-true false = refl
+          and-on : (b : Bool) → b ≡ (b && true)
+          and-on true = refl
+          and-on false = refl
 
-          and-false : (b : Bool) → false ≡ (b && false)
-          and-false true = refl
-          and-false false = refl
+          and-off : (b : Bool) → false ≡ (b && false)
+          and-off true = refl
+          and-off false = refl
 
           differs : (r : ℕ) → contains mask r ≡ true → contains mask (8 * j + k) ≡ false → 64 * d + (8 * j + k) ≡ 64 * d + r → ⊥
           differs r c o e = true-false (sym c ∙ ap (contains mask) (let q : r ≡ 8 * j + k = omega arith in q) ∙ o)
@@ -206,11 +260,11 @@ module _ (start : ℕ) (xs : List ℕ) (file d mask : ℕ) where
           go : (b : Bool) → contains mask (8 * j + k) ≡ b
               → eqb (pendingOf start (to 64) file (64 * d + (8 * j + k))) 1 ≡ (contains before (8 * j + k) && not b)
           go true e =
-              ap (λ (v : ℕ). eqb v 1) (pending-cleared 64 (8 * j + k) (omega arith) (omega arith) e) ∙ and-false (contains before (8 * j + k))
+              ap (λ (v : ℕ). eqb v 1) (pending-cleared 64 (8 * j + k) (omega arith) (omega arith) e) ∙ and-off (contains before (8 * j + k))
           go false e =
               ap (λ (v : ℕ). eqb v 1)
               (pending-left file (64 * d + (8 * j + k)) hf (identity-lt (8 * j + k) (omega arith)) 64 (omega arith) (λ r l c x y. differs r c e y))
-              ∙ sym (pending-is (8 * j + k) (omega arith)) ∙ and-true (contains before (8 * j + k))
+              ∙ sym (pending-is (8 * j + k) (omega arith)) ∙ and-on (contains before (8 * j + k))
 
       byte-after : (j : ℕ) → j < 8 → without before mask / 2 ^ (8 * j) % 2 ^ 8 ≡ getD (to 64) (at + j) 0
       byte-after j lj =

@@ -79,63 +79,57 @@ module _ (starts : Starts) (xs ys : List ℕ) (file n r : ℕ) (h : r ≡ takeRe
 
 -- of one, by that of many: the mask has its bit alone
 module _ (starts : Starts) (xs ys : List ℕ) (file n : ℕ) where
-  -- as the machine has it
-  abbrev bit : ℕ
-  bit = 1 * 2 ^ (n % 64) % 2 ^ 64
-
-  bit-is : bit ≡ 2 ^ (n % 64)
-  bit-is = ap (λ (b : ℕ). b % 2 ^ 64) (one-mul (2 ^ (n % 64))) ∙ mod-eq-of-lt (pow-lt {i = n % 64} {j = 64} (omega arith))
-
-  abbrev many : Answer
-  many = takeManyOf starts xs ys file (n / 64) bit
-
-  abbrev refusal : ℕ
-  refusal = takeManyRefusal starts (length xs) (length ys) file (n / 64)
-
-  same-refusal : refusal ≡ takeRefusal starts (length xs) (length ys) file n
+  pub same-refusal : takeManyRefusal starts (length xs) (length ys) file (n / 64) ≡ takeRefusal starts (length xs) (length ys) file n
   same-refusal = one-refusal starts (length xs) (length ys) file n
 
-  one-answered : answeredAt starts xs ys file (n / 64) bit ≡ pendingAt starts xs ys file n * 2 ^ (n % 64)
-  one-answered = ap (λ (b : ℕ). answeredAt starts xs ys file (n / 64) b) bit-is ∙ go (isFile (starts .first) (length xs) file)
+  pub one-answered : answeredAt starts xs ys file (n / 64) (2 ^ (n % 64)) ≡ pendingAt starts xs ys file n * 2 ^ (n % 64)
+  one-answered = go (isFile (starts .first) (length xs) file)
     where
       go : (b : Bool) → pick b (takenOf (starts .first) xs file (n / 64) (2 ^ (n % 64))) (takenOf (starts .second) ys file (n / 64) (2 ^ (n % 64)))
           ≡ pick b (pendingOf (starts .first) xs file n) (pendingOf (starts .second) ys file n) * 2 ^ (n % 64)
       go true = one-taken (starts .first) xs file n
       go false = one-taken (starts .second) ys file n
 
-  -- made: moved to bit 0
-  pub one-made : (a : Answer) (w : ℕ) → Answered a many → a ≡ Taken w → Answered (Taken (w / 2 ^ (n % 64))) (takeOf starts xs ys file n)
-  unfolding takeManyOf
-  one-made a w h e = go refusal refl (sym e ∙ h .same)
-    where
-      go : (r : ℕ) → refusal ≡ r → Taken w ≡ unlessRefused r Refused (Taken (answeredAt starts xs ys file (n / 64) bit))
-          → Answered (Taken (w / 2 ^ (n % 64))) (takeOf starts xs ys file n)
-      go zero z k =
-          let v : w ≡ pendingAt starts xs ys file n * 2 ^ (n % 64) = taken-same _ _ k ∙ one-answered in
-          answered _ _ (take-made starts xs ys file n 0 (sym z ∙ same-refusal) refl _ (ap (λ (x : ℕ). x / 2 ^ (n % 64)) v ∙ shl-shr (pendingAt starts xs ys file n) (n % 64)))
-      go (suc r) z k = absurd (taken-refused _ _ k)
-
-  -- not made: refused, by the same number
-  pub one-refused : (a : Answer) → Answered a many → ((w : ℕ) → a ≡ Taken w → ⊥) → Answered a (takeOf starts xs ys file n)
-  unfolding takeManyOf
-  one-refused a h never = go refusal refl (h .same)
-    where
-      go : (r : ℕ) → refusal ≡ r → a ≡ unlessRefused r Refused (Taken (answeredAt starts xs ys file (n / 64) bit)) → Answered a (takeOf starts xs ys file n)
-      go zero z k = absurd (never _ k)
-      go (suc r) z k = answered _ _ (k ∙ take-refused starts xs ys file n (suc r) (sym z ∙ same-refusal) (λ o. omega arith))
-
-  one-after : afterTakeManyOf starts xs ys file (n / 64) bit ≡ afterTakeOf starts xs ys file n
+  pub one-after : afterTakeManyOf starts xs ys file (n / 64) (2 ^ (n % 64)) ≡ afterTakeOf starts xs ys file n
   unfolding afterTakeManyOf afterTakeOf
   one-after =
       ap₂ (λ (r : ℕ) (k : Lent). unlessRefused r (λ i. lent starts xs ys) k) same-refusal
       (ap₂ (λ (us vs : List ℕ). lent starts (pick (isFile (starts .first) (length xs) file) us xs) (pick (isFile (starts .first) (length xs) file) ys vs))
-      (moved (starts .first) xs) (moved (starts .second) ys))
-    where
-      moved : (start : ℕ) (us : List ℕ) → afterTakeMany start us file (n / 64) bit ≡ afterTake start us file n
-      moved start us = ap (λ (b : ℕ). afterTakeMany start us file (n / 64) b) bit-is ∙ one-left start us file n
+      (one-left (starts .first) xs file n) (one-left (starts .second) ys file n))
 
-  pub one-leaves : (us vs : List ℕ) → Leaves (afterTakeManyOf starts xs ys file (n / 64) bit) us vs → Leaves (afterTakeOf starts xs ys file n) us vs
-  one-leaves us vs h = left-same _ _ us vs one-after h
+  -- the mask as the machine has it
+  abbrev mask : ℕ
+  mask = 1 * 2 ^ (n % 64) % 2 ^ 64
+
+  mask-is : mask ≡ 2 ^ (n % 64)
+  mask-is = ap (λ (b : ℕ). b % 2 ^ 64) (one-mul (2 ^ (n % 64))) ∙ mod-eq-of-lt (pow-lt {i = n % 64} {j = 64} (omega arith))
+
+  -- made: moved to bit 0
+  pub one-made : (a : Answer) (w : ℕ) → Answered a (takeManyOf starts xs ys file (n / 64) mask) → a ≡ Taken w
+      → Answered (Taken (w / 2 ^ (n % 64))) (takeOf starts xs ys file n)
+  unfolding takeManyOf
+  one-made a w h e = go _ same-refusal (sym e ∙ h .same)
+    where
+      go : (r : ℕ) → r ≡ takeRefusal starts (length xs) (length ys) file n → Taken w ≡ unlessRefused r Refused (Taken (answeredAt starts xs ys file (n / 64) mask))
+          → Answered (Taken (w / 2 ^ (n % 64))) (takeOf starts xs ys file n)
+      go zero z k =
+          let v : w ≡ pendingAt starts xs ys file n * 2 ^ (n % 64) =
+              taken-same _ _ k ∙ ap (λ (b : ℕ). answeredAt starts xs ys file (n / 64) b) mask-is ∙ one-answered in
+          answered _ _ (take-made starts xs ys file n 0 z refl _ (ap (λ (x : ℕ). x / 2 ^ (n % 64)) v ∙ shl-shr (pendingAt starts xs ys file n) (n % 64)))
+      go (suc r) z k = absurd (taken-refused _ _ k)
+
+  -- not made: refused, by the same number
+  pub one-refused : (a : Answer) → Answered a (takeManyOf starts xs ys file (n / 64) mask) → ((w : ℕ) → a ≡ Taken w → ⊥) → Answered a (takeOf starts xs ys file n)
+  unfolding takeManyOf
+  one-refused a h never = go _ same-refusal (h .same)
+    where
+      go : (r : ℕ) → r ≡ takeRefusal starts (length xs) (length ys) file n → a ≡ unlessRefused r Refused (Taken (answeredAt starts xs ys file (n / 64) mask))
+          → Answered a (takeOf starts xs ys file n)
+      go zero z k = absurd (never _ k)
+      go (suc r) z k = answered _ _ (k ∙ take-refused starts xs ys file n (suc r) z (λ o. omega arith))
+
+  pub one-leaves : (us vs : List ℕ) → Leaves (afterTakeManyOf starts xs ys file (n / 64) mask) us vs → Leaves (afterTakeOf starts xs ys file n) us vs
+  one-leaves us vs h = left-same _ _ us vs (ap (λ (b : ℕ). afterTakeManyOf starts xs ys file (n / 64) b) mask-is ∙ one-after) h
 
 -- in whichever window
 module _ (starts : Starts) (xs ys : List ℕ) (file d mask : ℕ) (b : Bool) (hb : b ≡ isFile (starts .first) (length xs) file) where

@@ -1,14 +1,15 @@
 -- Demand 3, "the ledger closes": one claim about any list of calls (01, "The ledger of demand 3").
-use Prim.Native.Nat.{ℕ, _+_, _<_}
+use Prim.Native.Nat.{ℕ, _+_, _*_, _<_}
 use mathlib.Core.Path.{_≡_}
 use mathlib.Core.Logic.{_↔_}
-use mathlib.Core.Bool.{true}
+use mathlib.Core.Bool.{true, _&&_}
 use mathlib.Core.List.{List, [], _∷_, _++_}
 use lib.Dec.{eqb}
 use lib.ListN.{length}
 use Rattle.memory.specs.Choice.{pick}
 use Rattle.memory.specs.Window.{Lent, holds, byteAt, memory}
 use Rattle.memory.specs.Walk.{run}
+use Rattle.word.specs.Word.{contains, wordOf}
 use Rattle.message.specs.declared.Destination.{Destination}
 use Rattle.interrupt_file.specs.File.{placeOf}
 use Rattle.iommu_refusals.specs.declared.DeviceRequest.{DeviceRequest}
@@ -16,10 +17,10 @@ use Rattle.iommu_translation.specs.declared.Outcome.the-variants.{Recorded}
 use Rattle.iommu_files.specs.declared.Answer.the-variants.{Stored, Refused, Taken}
 use Rattle.iommu_files.specs.declared.Numbers.{Numbers}
 use Rattle.iommu_files.specs.Answers.{numbersOf}
-use Rattle.iommu_refusals.specs.Refusals.{isLentFile, requestRefusal, takeRefusal}
+use Rattle.iommu_refusals.specs.Refusals.{isLentFile, requestRefusal, takeRefusal, takeManyRefusal}
 use Rattle.iommu_translation.specs.Translate.{translateOf}
 use Rattle.iommu.specs.Request.{storable}
-use Rattle.iommu.specs.Operations.{request, take, startsOf, settings}
+use Rattle.iommu.specs.Operations.{request, take, takeMany, startsOf, settings}
 use Rattle.ledger.specs.Places.{Side, windowOf, Place, place, isPlace}
 use Rattle.ledger.specs.Machine.{asks, Machine, Call, callOf, leftBy, history}
 use Rattle.ledger.specs.Ledger.{Account, store, nothing, eventOf, pendingIn, accountOf}
@@ -32,9 +33,12 @@ pub record Storing (l : Lent) (mode root : ℕ) (q : DeviceRequest) (value : ℕ
   pub storing : storable q value ≡ true
   pub within : isLentFile (startsOf l) (length (l .first .bytes)) (length (l .second .bytes)) (d .file) ≡ true
 
--- the number of the check that refuses a take, or 0
+-- the number of the check that refuses a take, of one or of many, or 0
 abbrev pub takeRefused : Lent → ℕ → ℕ → ℕ
 takeRefused l file n = takeRefusal (startsOf l) (length (l .first .bytes)) (length (l .second .bytes)) file n
+
+abbrev pub takeManyRefused : Lent → ℕ → ℕ → ℕ
+takeManyRefused l file d = takeManyRefusal (startsOf l) (length (l .first .bytes)) (length (l .second .bytes)) file d
 
 -- "A notice is the second and third number of an answer 2"
 pub record Notice : Type 0 where
@@ -122,9 +126,15 @@ module _ {O : Type 0} (m : Machine O) (l : Lent) where
     pub taken : (before : List O) (o : O) (p : Place) (n : ℕ) → Comes ops before o → m .asked o ≡ asks (take (p .file) n) → takeRefused l (p .file) n ≡ 0
         → Counted before p
         → (answerAt before o ≡ numbersOf (Taken (accountAfter before p n .mark))) × (accountAfter before p n .mark < 2)
-    -- and it is refused exactly when a check refuses it, by the check's number
+    -- of many: "in a call that isn't refused, a bit is answered exactly when it is in the mask and its interrupt waits"; bit k is identity 64 d + k
+    pub takenMany : (before : List O) (o : O) (p : Place) (d mask : ℕ) → Comes ops before o → m .asked o ≡ asks (takeMany (p .file) d mask) → takeManyRefused l (p .file) d ≡ 0
+        → Counted before p
+        → answerAt before o ≡ numbersOf (Taken (wordOf 64 (λ k. contains mask k && eqb (accountAfter before p (64 * d + k) .mark) 1)))
+    -- and each is refused exactly when a check refuses it, by the check's number
     pub refused : (before : List O) (o : O) (file n r : ℕ) → Comes ops before o → m .asked o ≡ asks (take file n)
         → (answerAt before o ≡ numbersOf (Refused r)) ↔ ((takeRefused l file n ≡ r) × (r ≡ 0 → ⊥))
+    pub refusedMany : (before : List O) (o : O) (file d mask r : ℕ) → Comes ops before o → m .asked o ≡ asks (takeMany file d mask)
+        → (answerAt before o ≡ numbersOf (Refused r)) ↔ ((takeManyRefused l file d ≡ r) × (r ≡ 0 → ⊥))
     -- 5. "After the list each pending bit is 1 exactly when its mark is waiting"; both are 0 or 1
     pub marks : (p : Place) (n : ℕ) → Counted ops p → n < 2048
         → (pendingAfter ops p n ≡ accountAfter ops p n .mark) × (pendingAfter ops p n < 2)

@@ -1,5 +1,5 @@
 -- The ledger, from history alone: the windows' starting bytes, then each call's arguments and its answer (01, "The ledger of demand 3").
-use Prim.Native.Nat.{ℕ, _+_}
+use Prim.Native.Nat.{ℕ, _+_, _/_, _%_}
 use mathlib.Core.Bool.{_&&_}
 use mathlib.Core.List.{List, [], _∷_}
 use lib.Dec.{eqb}
@@ -8,7 +8,8 @@ use Rattle.interrupt_file.specs.File.{pendingOf}
 use Rattle.iommu_files.specs.declared.Numbers.{Numbers}
 use Rattle.iommu.specs.Request.{identityOf}
 use Rattle.memory.specs.Window.{Lent}
-use Rattle.iommu.specs.Operations.{Op, request, take}
+use Rattle.word.specs.Word.{contains}
+use Rattle.iommu.specs.Operations.{Op, request, take, takeMany}
 use Rattle.ledger.specs.Places.{Place, windowOf}
 use Rattle.ledger.specs.Machine.{Asked, asks, asksNothing, Machine, Call, history}
 
@@ -20,9 +21,11 @@ pub data Event : Type 0 where
 
 -- "A request answered 2 is a store: its file is the answer's first number, its identity the data value, at page offset 4 with the four bytes reversed"
 -- "A take answered 6 with 1 is a successful take of the file and identity that it gives"
+-- of many, "each answered bit is one successful take of its identity" (02, Req 12): identity n is bit n mod 64 of doubleword n div 64
 abbrev pub opEvent : ℕ → ℕ → Op → Numbers → Event
 opEvent file n (request mode root q d) a = pick (eqb (a .kind) 2 && (eqb (a .first) file && eqb (identityOf q d) n)) store nothing
 opEvent file n (take f i) a = pick (eqb (a .kind) 6 && (eqb f file && (eqb i n && eqb (a .first) 1))) successfulTake nothing
+opEvent file n (takeMany f d mask) a = pick (eqb (a .kind) 6 && (eqb f file && (eqb d (n / 64) && contains (a .first) (n % 64)))) successfulTake nothing
 
 -- "Any other answer, a refusal too, changes nothing"
 abbrev pub askedEvent : ℕ → ℕ → Asked → Numbers → Event

@@ -3,11 +3,12 @@ use Prim.Native.Nat.{ℕ, zero, suc, _+_}
 use mathlib.Core.Path.{_≡_}
 use mathlib.Core.Bool.{Bool, true, false, _&&_, _||_}
 use mathlib.Core.List.{List, [], _∷_}
+use lib.Count.{ones}
 use lib.Dec.{eqb}
 use Rattle.memory.specs.Choice.{pick}
 use Rattle.memory.specs.Window.{Lent}
 use Rattle.iommu_files.specs.declared.Numbers.{Numbers}
-use Rattle.iommu.specs.Operations.{Op, request, take}
+use Rattle.iommu.specs.Operations.{Op, request, take, takeMany}
 use Rattle.ledger.specs.Places.{Place, samePlace, isPlace}
 use Rattle.ledger.specs.Machine.{Asked, asks, asksNothing, Machine, Call}
 
@@ -46,11 +47,13 @@ Places l (p ∷ ps) = (isPlace l p ≡ true) × Places l ps
 abbrev pub opStores : (ℕ → Bool) → Op → Numbers → ℕ
 opStores these (request mode root q d) a = pick (eqb (a .kind) 2 && these (a .first)) 1 0
 opStores these (take f i) a = 0
+opStores these (takeMany f d mask) a = 0
 
--- how many successful takes from them: "A take answered 6 with 1 is a successful take of the file and identity that it gives"
+-- how many successful takes from them: "A take answered 6 with 1 is a successful take of the file and identity that it gives"; of many, "each answered bit is one successful take" (02, Req 12)
 abbrev pub opTakes : (ℕ → Bool) → Op → Numbers → ℕ
 opTakes these (request mode root q d) a = 0
 opTakes these (take f i) a = pick (eqb (a .kind) 6 && (eqb (a .first) 1 && these f)) 1 0
+opTakes these (takeMany f d mask) a = pick (eqb (a .kind) 6 && these f) (ones (a .first)) 0
 
 -- of a call that asks an operation; another is none
 abbrev pub askedWeight : (Op → Numbers → ℕ) → Asked → Numbers → ℕ

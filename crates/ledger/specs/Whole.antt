@@ -3,7 +3,7 @@ use Prim.Native.Nat.{ℕ, zero, suc, _+_, _-_, _*_, _/_}
 use mathlib.Core.List.{List, [], _∷_, _++_}
 use lib.ListN.{length}
 use Rattle.memory.specs.Window.{Lent}
-use Rattle.iommu.specs.Operations.{request, take}
+use Rattle.iommu.specs.Operations.{request, take, takeMany}
 use Rattle.ledger.specs.Places.{Side, firstWindow, secondWindow, Place, place}
 use Rattle.ledger.specs.Machine.{Asked, asks, asksNothing, Machine}
 
@@ -11,6 +11,7 @@ use Rattle.ledger.specs.Machine.{Asked, asks, asksNothing, Machine}
 abbrev pub NoTake : Asked → Type 0
 NoTake (asks (request mode root q d)) = Unit {0}
 NoTake (asks (take file n)) = ⊥
+NoTake (asks (takeMany file d mask)) = ⊥
 NoTake asksNothing = Unit {0}
 
 abbrev pub NoTakes : {O : Type 0} → Machine O → List O → Type 0
