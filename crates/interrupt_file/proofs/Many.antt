@@ -21,7 +21,7 @@ use Rattle.memory.specs.Window.{doubleword}
 use Rattle.memory.proofs.Loads.{part-word}
 use Rattle.memory.proofs.Truth.{and-true}
 use Rattle.word.specs.Word.{contains, wordOf}
-use Rattle.word.proofs.Bits.{bit-and, bit-without, bit-pow, bit-mod, bit-shr, word-low, word-ext, word-bit, same-bits, zero-digit}
+use Rattle.word.proofs.Bits.{bit-and, bit-without, bit-pow, bit-mod, bit-shr, word-low, word-ext, word-bit, word-lt, same-bits, zero-digit}
 use Rattle.interrupt_file.specs.Bit.{bitAt}
 use Rattle.interrupt_file.specs.File.{isFile, placeOf, pendingOf, afterTake, takenOf, takenTo, afterTakeMany}
 use Rattle.interrupt_file.proofs.Bytes.{Bytes, take-bytes, doubleword-lt}
@@ -58,6 +58,10 @@ pub ruleset bits-ways = (bits-read, bits-written)
 module _ (start : ℕ) (xs : List ℕ) (file d mask : ℕ) where
   abbrev to : ℕ → List ℕ
   to k = takenTo start xs file d mask k
+
+  pub taken-lt : takenOf start xs file d mask < 2 ^ 64
+  unfolding takenOf
+  taken-lt = word-lt 64 (λ k. contains mask k && eqb (pendingOf start xs file (64 * d + k)) 1)
 
   -- by whether an identity is in the mask
   to-in : (k : ℕ) → contains mask k ≡ true → to (suc k) ≡ afterTake start (to k) file (64 * d + k)

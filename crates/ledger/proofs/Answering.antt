@@ -1,5 +1,5 @@
 -- One call on any bytes: when it is answered 2, 5 or 6, which bytes it changes, and what notice it gives. Assumes nothing.
-use Prim.Native.Nat.{ℕ, zero, suc, _<_}
+use Prim.Native.Nat.{ℕ, zero, suc, _/_, _<_}
 use mathlib.Core.Path.{_≡_, refl, sym, ap, _∙_}
 use mathlib.Core.Logic.{_↔_}
 use mathlib.Core.Bool.{Bool, true, false, not, _&&_}
@@ -18,16 +18,16 @@ use Rattle.iommu_translation.specs.declared.Outcome.{Outcome}
 use Rattle.iommu_files.specs.declared.Answer.{Answer}
 use Rattle.iommu_files.specs.declared.Answer.the-variants.{Translated, Redirected, Stored, Discarded, Fault, Refused, Taken}
 use Rattle.iommu_files.specs.Answers.{numbersOf}
-use Rattle.iommu_refusals.specs.Refusals.{badWindows, overlap, isLentFile, requestRefusal, takeRefusal}
+use Rattle.iommu_refusals.specs.Refusals.{badWindows, overlap, isLentFile, requestRefusal, takeManyRefusal}
 use Rattle.iommu_translation.specs.Translate.{translateOf}
 use Rattle.iommu.specs.Request.{identityOf, storable, finish, requestOf}
-use Rattle.iommu_files.specs.Files.{pendingAt, takeOf}
-use Rattle.iommu_files.proofs.Files.{take-made, take-refused}
+use Rattle.iommu_files.specs.Files.{pendingAt, answeredAt, takeOf, takeManyOf}
+use Rattle.iommu_files.proofs.Files.{take-made, many-made, same-refusal}
 use Rattle.iommu.proofs.Requests.{record-stores, record-low, request-finishes}
 use Rattle.iommu_files.specs.declared.Numbers.{Numbers}
-use Rattle.iommu.specs.Operations.{Op, request, take, startsOf, settings, answerOf}
+use Rattle.iommu.specs.Operations.{Op, request, take, takeMany, startsOf, settings, answerOf}
 use Rattle.ledger.specs.Ledger.{store, nothing, opEvent}
-use Rattle.ledger.specs.Closes.{Storing, takeRefused, noticesOf, noticeGiven}
+use Rattle.ledger.specs.Closes.{Storing, takeRefused, takeManyRefused, noticesOf, noticeGiven}
 
 pub no-way : _≡_ {A = ℕ} 0 1 → ⊥
 no-way e = omega arith
@@ -96,32 +96,43 @@ module _ (l : Lent) where
     storing-apart s = windows-apart (badWindows starts (length xs) (length ys)) (overlap starts (length xs) (length ys)) _ (s .unrefused) .0
 
   -- 4: takes
-  module _ (file n : ℕ) where
-    pub take-passed : takeRefused l file n ≡ 0 → Apart × (isLentFile starts (length xs) (length ys) file ≡ true) × (n < 2048)
-    unfolding takeRefusal
-    take-passed e =
+  module _ (file d : ℕ) where
+    pub many-passed : takeManyRefused l file d ≡ 0 → Apart × (isLentFile starts (length xs) (length ys) file ≡ true) × (d < 32)
+    unfolding takeManyRefusal
+    many-passed e =
         let w = windows-apart (badWindows starts (length xs) (length ys)) (overlap starts (length xs) (length ys)) _ e in
-        let p = go (isLentFile starts (length xs) (length ys) file) (ltb 2047 n) refl refl (w .1) in
+        let p = go (isLentFile starts (length xs) (length ys) file) (ltb 31 d) refl refl (w .1) in
         (w .0, p .0, p .1)
       where
-        go : (f k : Bool) → isLentFile starts (length xs) (length ys) file ≡ f → ltb 2047 n ≡ k → _≡_ {A = ℕ} (pick (not f) 2008 (pick k 2009 0)) 0
-            → (isLentFile starts (length xs) (length ys) file ≡ true) × (n < 2048)
+        go : (f k : Bool) → isLentFile starts (length xs) (length ys) file ≡ f → ltb 31 d ≡ k → _≡_ {A = ℕ} (pick (not f) 2008 (pick k 2009 0)) 0
+            → (isLentFile starts (length xs) (length ys) file ≡ true) × (d < 32)
         go false k h j z = absurd (omega arith)
         go true true h j z = absurd (omega arith)
-        go true false h j z = (h, omega (arith, ltb-false 2047 n j))
+        go true false h j z = (h, omega (arith, ltb-false 31 d j))
+
+    pub many-taken : (mask : ℕ) → takeManyRefused l file d ≡ 0 → takeManyOf starts xs ys file d mask ≡ Taken (answeredAt starts xs ys file d mask)
+    many-taken mask z = sym (many-made starts xs ys file d mask 0 (sym z) refl _ refl)
+
+  module _ (file n : ℕ) where
+    pub take-passed : takeRefused l file n ≡ 0 → Apart × (isLentFile starts (length xs) (length ys) file ≡ true) × (n < 2048)
+    take-passed e =
+        let p = many-passed file (n / 64) (same-refusal starts xs ys file n ∙ e) in
+        (p .0, p .1, omega (arith, p .2))
 
     pub take-taken : takeRefused l file n ≡ 0 → takeOf starts xs ys file n ≡ Taken (pendingAt starts xs ys file n)
     take-taken z = sym (take-made starts xs ys file n 0 (sym z) refl _ refl)
 
-    pub refused-iff : (r : ℕ) → (takeOf starts xs ys file n ≡ Refused r) ↔ ((takeRefused l file n ≡ r) × (r ≡ 0 → ⊥))
-    refused-iff r = (λ e. go (takeRefused l file n) refl e, λ h. sym (take-refused starts xs ys file n r (sym (h .0)) (h .1)))
-      where
-        go : (k : ℕ) → takeRefused l file n ≡ k → takeOf starts xs ys file n ≡ Refused r → (takeRefused l file n ≡ r) × (r ≡ 0 → ⊥)
-        go zero h e = let t = take-taken h in absurd (no-way (cc))
-        go (suc k) h e =
-            let t = take-refused starts xs ys file n (suc k) (sym h) (λ z. omega arith) in
-            let w : suc k ≡ r = cc in
-            (h ∙ w, λ z. omega arith)
+-- an answer after checks is a refusal exactly when one of them fails
+refused-by : (k v r : ℕ) → (unlessRefused k Refused (Taken v) ≡ Refused r) ↔ ((k ≡ r) × (r ≡ 0 → ⊥))
+refused-by k v r = (λ e. there k e, λ h. back k (h .0) (h .1))
+  where
+    there : (k : ℕ) → unlessRefused k Refused (Taken v) ≡ Refused r → (k ≡ r) × (r ≡ 0 → ⊥)
+    there zero e = absurd (no-way (cc))
+    there (suc k) e = let w : suc k ≡ r = cc in (w, λ z. omega arith)
+
+    back : (k : ℕ) → k ≡ r → (r ≡ 0 → ⊥) → unlessRefused k Refused (Taken v) ≡ Refused r
+    back zero e h = absurd (h (sym e))
+    back (suc k) e h = ap Refused e
 
 -- an answer is told by its numbers
 same-destination : (d e : Destination) → d .file ≡ e .file → d .notice ≡ e .notice → d .number ≡ e .number → d ≡ e
@@ -161,11 +172,20 @@ stored-iff l mode root q value d =
     (λ e. stored-storing l mode root q value d (told-stored _ d e), λ s. ap numbersOf (storing-stored l mode root q value d s))
 
 -- a take is refused exactly when a check refuses it
+told-by : (k v r : ℕ) (a : Answer) → a ≡ unlessRefused k Refused (Taken v) → (numbersOf a ≡ numbersOf (Refused r)) ↔ ((k ≡ r) × (r ≡ 0 → ⊥))
+told-by k v r a h =
+    let i = refused-by k v r in
+    (λ e. i .0 (sym h ∙ told-refused a r e), λ w. ap numbersOf (h ∙ i .1 w))
+
 pub refused-told : (l : Lent) (file n r : ℕ)
     → (numbersOf (answerOf l (take file n)) ≡ numbersOf (Refused r)) ↔ ((takeRefused l file n ≡ r) × (r ≡ 0 → ⊥))
-refused-told l file n r =
-    let i = refused-iff l file n r in
-    (λ e. i .0 (told-refused _ r e), λ h. ap numbersOf (i .1 h))
+unfolding takeOf
+refused-told l file n r = told-by _ _ r _ refl
+
+pub many-refused-told : (l : Lent) (file d mask r : ℕ)
+    → (numbersOf (answerOf l (takeMany file d mask)) ≡ numbersOf (Refused r)) ↔ ((takeManyRefused l file d ≡ r) × (r ≡ 0 → ⊥))
+unfolding takeManyOf
+many-refused-told l file d mask r = told-by _ _ r _ refl
 
 -- the notices
 pub given : (a : Numbers) (d : Destination) → a ≡ numbersOf (Stored d) → noticesOf a ≡ noticeGiven d
@@ -174,7 +194,12 @@ given a d e = rw e
 own : (x y : ℕ) → pick (eqb x x && eqb y y) store nothing ≡ store
 own x y = rw (eq-eqb x x refl, eq-eqb y y refl)
 
+quiet : (r v : ℕ) → noticesOf (numbersOf (unlessRefused r Refused (Taken v))) ≡ []
+quiet zero v = refl
+quiet (suc r) v = refl
+
 pub no-notice : (l : Lent) (o : Op) → ((file n : ℕ) → opEvent file n o (numbersOf (answerOf l o)) ≡ store → ⊥) → noticesOf (numbersOf (answerOf l o)) ≡ []
+unfolding takeOf takeManyOf
 no-notice l (request mode root q value) k = go (answerOf l (request mode root q value)) k
   where
     go : (a : Answer) → ((file n : ℕ) → opEvent file n (request mode root q value) (numbersOf a) ≡ store → ⊥) → noticesOf (numbersOf a) ≡ []
@@ -185,8 +210,5 @@ no-notice l (request mode root q value) k = go (answerOf l (request mode root q 
     go (Fault f) h = refl
     go (Refused r) h = refl
     go (Taken w) h = refl
-no-notice l (take f i) h = go (takeRefused l f i) refl
-  where
-    go : (k : ℕ) → takeRefused l f i ≡ k → noticesOf (numbersOf (answerOf l (take f i))) ≡ []
-    go zero e = ap (λ (a : Answer). noticesOf (numbersOf a)) (take-taken l f i e)
-    go (suc k) e = ap (λ (a : Answer). noticesOf (numbersOf a)) (sym (take-refused (startsOf l) (l .first .bytes) (l .second .bytes) f i (suc k) (sym e) (λ z. omega arith)))
+no-notice l (take f i) h = quiet (takeRefused l f i) _
+no-notice l (takeMany f d mask) h = quiet (takeManyRefused l f d) _

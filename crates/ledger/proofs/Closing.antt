@@ -1,10 +1,14 @@
 -- THE LEDGER CLOSES: demand 3, of any list of calls, any starts and any bytes of both windows; of any machine that is faithful to the routines. Assumes nothing.
-use Prim.Native.Nat.{ℕ, _+_, _<_}
+use Prim.Native.Nat.{ℕ, _+_, _*_, _<_}
 use mathlib.Core.Path.{_≡_, refl, sym, ap, subst, _∙_}
 use mathlib.Core.Logic.{_↔_}
-use mathlib.Core.Bool.{true}
+use mathlib.Core.Bool.{true, _&&_}
 use mathlib.Core.List.{List, [], _∷_, _++_}
 use native.Mathlib.Omega.{arith}
+use lib.Dec.{eqb}
+use Rattle.word.specs.Word.{contains, wordOf}
+use Rattle.word.proofs.Bits.{word-ext}
+use Rattle.interrupt_file.specs.File.{takenOf}
 use Rattle.message.specs.declared.Destination.{Destination}
 use Rattle.memory.specs.Window.{Lent, holds}
 use Rattle.interrupt_file.proofs.Pending.{pending-lt}
@@ -12,17 +16,17 @@ use Rattle.iommu_refusals.specs.declared.DeviceRequest.{DeviceRequest}
 use Rattle.iommu_files.specs.declared.Answer.the-variants.{Stored, Refused, Taken}
 use Rattle.iommu_files.specs.declared.Numbers.{Numbers}
 use Rattle.iommu_files.specs.Answers.{numbersOf}
-use Rattle.iommu.specs.Operations.{Op, request, take, answerOf}
+use Rattle.iommu.specs.Operations.{Op, request, take, takeMany, answerOf}
 use Rattle.ledger.specs.Places.{Side, firstWindow, secondWindow, windowOf, Place, place}
 use Rattle.ledger.specs.Machine.{Asked, asks, asksNothing, Machine, routines, leftBy, history, AllGranted}
 use Rattle.ledger.specs.Ledger.{Account, store, askedEvent, pendingIn, accountOf}
 use Rattle.ledger.specs.Sums.{Different, Places}
-use Rattle.ledger.specs.Closes.{Closes, Changes, Adds, AllCounted, Storing, takeRefused, noticesOf, answerAt, afterAt, callAt, pendingAfter}
+use Rattle.ledger.specs.Closes.{Closes, Changes, Adds, AllCounted, Storing, takeRefused, takeManyRefused, noticesOf, answerAt, afterAt, callAt, pendingAfter}
 use Rattle.ledger.proofs.Machine.{left-append, history-append, granted-at, granted-before, mark-kept, balance-kept}
-use Rattle.ledger.proofs.Answering.{stored-iff, take-passed, take-taken, refused-told, given, no-notice}
+use Rattle.ledger.proofs.Answering.{stored-iff, take-passed, take-taken, many-passed, many-taken, refused-told, many-refused-told, given, no-notice}
 use Rattle.ledger.proofs.Keeping.{Faith, Faithful, Same, Held, same-held, step-same, list-same, step-quiet, keeps}
 use Rattle.ledger.proofs.SumLaws.{total-add, total-ext}
-use Rattle.ledger.proofs.Sides.{side-pending}
+use Rattle.ledger.proofs.Sides.{side-pending, side-answered}
 use Rattle.ledger.proofs.Counting.{stores-counted, takes-counted}
 
 -- what a faithful call answers to an operation
@@ -101,6 +105,28 @@ module _ {O : Type 0} (m : Machine O) (faith : Faithful m) (l : Lent) where
         let q = same secondWindow in
         rw (p .place, p .long, q .place, q .long)
 
+    many-still-refused : (file d : ℕ) → takeManyRefused here file d ≡ takeManyRefused l file d
+    many-still-refused file d =
+        let p = same firstWindow in
+        let q = same secondWindow in
+        rw (p .place, p .long, q .place, q .long)
+
+    -- the answered bits are the marks that the mask has
+    marked : (p : Place) (d mask : ℕ) → Held p l → d < 32
+        → takenOf (windowOf here (p .side) .start) (windowOf here (p .side) .bytes) (p .file) d mask
+        ≡ wordOf 64 (λ k. contains mask k && eqb (a before p (64 * d + k) .mark) 1)
+    unfolding takenOf
+    marked p d mask h ld = word-ext 64 _ _ (λ k l. ap (λ (x : ℕ). contains mask k && eqb x 1) (mark-is before so-far p (64 * d + k) h (omega arith)))
+
+    many-here : (p : Place) (d mask : ℕ) → m .asked o ≡ asks (takeMany (p .file) d mask) → takeManyRefused l (p .file) d ≡ 0 → Held p l
+        → answerAt m l before o ≡ numbersOf (Taken (wordOf 64 (λ k. contains mask k && eqb (a before p (64 * d + k) .mark) 1)))
+    many-here p d mask e z h =
+        let y = many-still-refused (p .file) d ∙ z in
+        let t = many-passed here (p .file) d y in
+        let v = side-answered here (p .file) (t .0) (t .1) d mask (p .side) (same-held l here p (same (p .side)) h) in
+        answered (takeMany (p .file) d mask) e ∙ ap numbersOf (many-taken here (p .file) d mask y)
+        ∙ ap (λ (w : ℕ). numbersOf (Taken w)) (v ∙ marked p d mask h (t .2))
+
     taken-here : (p : Place) (n : ℕ) → m .asked o ≡ asks (take (p .file) n) → takeRefused l (p .file) n ≡ 0 → Held p l
         → (answerAt m l before o ≡ numbersOf (Taken (a before p n .mark))) × (a before p n .mark < 2)
     taken-here p n e z h =
@@ -118,6 +144,14 @@ module _ {O : Type 0} (m : Machine O) (faith : Faithful m) (l : Lent) where
         let i = refused-told here file n r in
         let w = answered (take file n) e in
         let s = still-refused file n in
+        (λ h. let k = i .0 (sym w ∙ h) in (sym s ∙ k .0, k .1), λ k. w ∙ i .1 (s ∙ k .0, k .1))
+
+    many-refused-here : (file d mask r : ℕ) → m .asked o ≡ asks (takeMany file d mask)
+        → (answerAt m l before o ≡ numbersOf (Refused r)) ↔ ((takeManyRefused l file d ≡ r) × (r ≡ 0 → ⊥))
+    many-refused-here file d mask r e =
+        let i = many-refused-told here file d mask r in
+        let w = answered (takeMany file d mask) e in
+        let s = many-still-refused file d in
         (λ h. let k = i .0 (sym w ∙ h) in (sym s ∙ k .0, k .1), λ k. w ∙ i .1 (s ∙ k .0, k .1))
 
     silent-here : ((file n : ℕ) → askedEvent file n (m .asked o) (m .answer here o) ≡ store → ⊥) → noticesOf (answerAt m l before o) ≡ []
@@ -146,7 +180,9 @@ module _ {O : Type 0} (m : Machine O) (faith : Faithful m) (l : Lent) where
     sums = adds ops g;
     stored = λ before o mode root q value d c e. stored-here before (c .0) o (rw (c .1) at g) mode root q value d e;
     taken = λ before o p n c e z u. taken-here before (c .0) o (rw (c .1) at g) p n e z (u .within);
+    takenMany = λ before o p d mask c e z u. many-here before (c .0) o (rw (c .1) at g) p d mask e z (u .within);
     refused = λ before o file n r c e. refused-here before (c .0) o (rw (c .1) at g) file n r e;
+    refusedMany = λ before o file d mask r c e. many-refused-here before (c .0) o (rw (c .1) at g) file d mask r e;
     marks = λ p n c ln. (mark-is ops g p n (c .within) ln, pending-lt (windowOf (leftBy m l ops) (p .side) .start) (windowOf (leftBy m l ops) (p .side) .bytes) (p .file) n);
     notices = λ before o d c e. given (answerAt m l before o) d e;
     silent = λ before o c h. silent-here before (c .0) o (rw (c .1) at g) h;

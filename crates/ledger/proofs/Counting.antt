@@ -1,10 +1,14 @@
 -- An account's counts are tallies of its events, and their sums over different files are what the history's calls add up to. Assumes nothing.
-use Prim.Native.Nat.{ℕ, zero, suc, _+_}
-use mathlib.Core.Path.{_≡_, refl, ap₂, _∙_}
+use Prim.Native.Nat.{ℕ, zero, suc, _+_, _/_, _%_, _^_, _<_}
+use mathlib.Core.Path.{_≡_, refl, sym, ap, ap₂, _∙_}
 use mathlib.Core.List.{List, [], _∷_, _++_}
 use mathlib.Core.Bool.{Bool, true, false, _&&_}
 use native.Mathlib.Omega.{arith}
 use lib.Dec.{eqb}
+use lib.ListN.{length}
+use Rattle.word.specs.Word.{contains}
+use Rattle.interrupt_file.specs.File.{isFile, takenOf}
+use Rattle.interrupt_file.proofs.Many.{taken-lt}
 use Rattle.memory.specs.Choice.{pick, unlessRefused}
 use Rattle.iommu_refusals.specs.declared.DeviceRequest.{DeviceRequest}
 use Rattle.iommu_files.specs.declared.Answer.{Answer}
@@ -12,17 +16,18 @@ use Rattle.iommu_files.specs.declared.Answer.the-variants.{Translated, Redirect
 use Rattle.iommu_files.specs.declared.Numbers.{Numbers}
 use Rattle.iommu_files.specs.Answers.{numbersOf}
 use Rattle.iommu.specs.Request.{identityOf}
-use Rattle.iommu_files.specs.Files.{pendingAt, takeOf}
-use Rattle.iommu.specs.Operations.{Op, request, take, answerOf}
+use Rattle.iommu_files.specs.Files.{answeredAt, takeManyOf}
+use Rattle.iommu.specs.Operations.{Op, request, take, takeMany, answerOf}
 use Rattle.memory.specs.Window.{Lent}
 use Rattle.ledger.specs.Places.{Side, Place}
-use Rattle.ledger.specs.Closes.{takeRefused}
+use Rattle.ledger.specs.Closes.{takeManyRefused}
 use Rattle.ledger.specs.Machine.{Asked, asks, asksNothing, Machine, callOf, history, AllGranted}
 use Rattle.ledger.specs.Ledger.{Event, store, successfulTake, nothing, opEvent, askedEvent, eventOf, Account, opened, entered, enteredAll, pendingIn, accountOf}
 use Rattle.ledger.specs.Sums.{total, among, Different, Places, opStores, opTakes, askedWeight, addedUp}
-use Rattle.ledger.proofs.Answering.{starts, xs, ys, stored-storing, stored-low, storing-apart, take-passed}
+use Rattle.ledger.proofs.Answering.{starts, xs, ys, stored-storing, stored-low, storing-apart, many-passed}
+use Rattle.ledger.proofs.Ones.{one-event, one-weight}
 use Rattle.ledger.proofs.Keeping.{Faith, Faithful, Same, same-held, step-same}
-use Rattle.ledger.proofs.SumLaws.{total-add, total-cong, total-zero, one-hit, distinct}
+use Rattle.ledger.proofs.SumLaws.{total-add, total-cong, total-zero, file-one, file-hit, file-ones, distinct}
 
 abbrev pub oneStore : Event → ℕ
 oneStore store = 1
@@ -74,10 +79,6 @@ module _ {O : Type 0} (m : Machine O) (l : Lent) (ops : List O) (p : Place) (n :
   account-takes = omega (arith, all-takes (eventOf m (p .file) n) (opened (pendingIn l p n)) (history m l ops))
 
 -- one call: a request is no take, and a take no store
-store-weighs : (t : Bool) → oneStore (pick t store nothing) ≡ pick t 1 0
-store-weighs true = refl
-store-weighs false = refl
-
 pub request-no-take : (file n mode root : ℕ) (q : DeviceRequest) (value : ℕ) (a : Numbers) → oneTake (opEvent file n (request mode root q value) a) ≡ 0
 request-no-take file n mode root q value a = go (eqb (a .kind) 2 && (eqb (a .first) file && eqb (identityOf q value) n))
   where
@@ -85,18 +86,33 @@ request-no-take file n mode root q value a = go (eqb (a .kind) 2 && (eqb (a .fir
     go true = refl
     go false = refl
 
-take-no-store : (file n f i : ℕ) (a : Numbers) → oneStore (opEvent file n (take f i) a) ≡ 0
-take-no-store file n f i a = go (eqb (a .kind) 6 && (eqb f file && (eqb i n && eqb (a .first) 1)))
-  where
-    go : (t : Bool) → oneStore (pick t successfulTake nothing) ≡ 0
-    go true = refl
-    go false = refl
+taken-no-store : (t : Bool) → oneStore (pick t successfulTake nothing) ≡ 0
+taken-no-store true = refl
+taken-no-store false = refl
 
-take-weighs : (a b c : Bool) → oneTake (pick (a && (b && c)) successfulTake nothing) ≡ pick (a && b) (pick c 1 0) 0
-take-weighs true true true = refl
-take-weighs true true false = refl
-take-weighs true false c = refl
-take-weighs false b c = refl
+take-no-store : (file n f i : ℕ) (a : Numbers) → oneStore (opEvent file n (take f i) a) ≡ 0
+take-no-store file n f i a = taken-no-store (eqb (a .kind) 6 && (eqb f file && (eqb i n && eqb (a .first) 1)))
+
+many-no-store : (file n f d mask : ℕ) (a : Numbers) → oneStore (opEvent file n (takeMany f d mask) a) ≡ 0
+many-no-store file n f d mask a = taken-no-store (eqb (a .kind) 6 && (eqb f file && (eqb d (n / 64) && contains (a .first) (n % 64))))
+
+take-weighs : (a b : Bool) → oneTake (pick (a && b) successfulTake nothing) ≡ pick a (pick b 1 0) 0
+take-weighs true true = refl
+take-weighs true false = refl
+take-weighs false b = refl
+
+store-places : (a b : Bool) → oneStore (pick (a && b) store nothing) ≡ pick a (pick b 1 0) 0
+store-places true true = refl
+store-places true false = refl
+store-places false b = refl
+
+-- an answer has 64 bits
+answered-lt : (l : Lent) (g e mask : ℕ) → answeredAt (starts l) (xs l) (ys l) g e mask < 2 ^ 64
+answered-lt l g e mask = go (isFile (l .first .start) (length (xs l)) g)
+  where
+    go : (b : Bool) → pick b (takenOf (l .first .start) (xs l) g e mask) (takenOf (l .second .start) (ys l) g e mask) < 2 ^ 64
+    go true = taken-lt (l .first .start) (xs l) g e mask
+    go false = taken-lt (l .second .start) (ys l) g e mask
 
 -- files of what is lent stay so
 places-after : (l k : Lent) → ((s : Side) → Same l k s) → (ps : List Place) → Places l ps → Places k ps
@@ -110,8 +126,9 @@ module _ (ps : List Place) (d : Different ps) where
         → total ps (λ p n. oneStore (opEvent (p .file) n (request mode root q value) (numbersOf a))) ≡ opStores (among ps) (request mode root q value) (numbersOf a)
     request-stores mode root q value (Stored t) e =
         let k = stored-storing l mode root q value t e in
-        total-cong ps _ _ (λ p n. store-weighs (eqb (t .file) (p .file) && eqb (identityOf q value) n))
-        ∙ one-hit ps (t .file) (identityOf q value) 1 (distinct l (storing-apart l mode root q value t k) ps w d) (stored-low l mode root q value t k)
+        total-cong ps _ _ (λ p n. store-places (eqb (t .file) (p .file)) (eqb (identityOf q value) n))
+        ∙ file-hit ps (t .file) (λ n. pick (eqb (identityOf q value) n) 1 0) (distinct l (storing-apart l mode root q value t k) ps w d)
+        ∙ ap (λ (x : ℕ). pick (among ps (t .file)) x 0) (file-one (identityOf q value) 1 (stored-low l mode root q value t k))
     request-stores mode root q value (Translated a) e = total-zero ps
     request-stores mode root q value (Redirected a) e = total-zero ps
     request-stores mode root q value Discarded e = total-zero ps
@@ -119,32 +136,29 @@ module _ (ps : List Place) (d : Different ps) where
     request-stores mode root q value (Refused r) e = total-zero ps
     request-stores mode root q value (Taken v) e = total-zero ps
 
-    take-takes : (g i r : ℕ) → takeRefused l g i ≡ r
-        → total ps (λ p n. oneTake (opEvent (p .file) n (take g i) (numbersOf (unlessRefused r Refused (Taken (pendingAt (starts l) (xs l) (ys l) g i))))))
-        ≡ opTakes (among ps) (take g i) (numbersOf (unlessRefused r Refused (Taken (pendingAt (starts l) (xs l) (ys l) g i))))
-    take-takes g i (suc r) e = total-zero ps
-    take-takes g i zero e =
-        let k = take-passed l g i e in
-        let v = pendingAt (starts l) (xs l) (ys l) g i in
-        total-cong ps _ _ (λ p n. take-weighs (eqb g (p .file)) (eqb i n) (eqb v 1))
-        ∙ one-hit ps g i (pick (eqb v 1) 1 0) (distinct l (k .0) ps w d) (k .2)
-        ∙ swap (among ps g) (eqb v 1)
-      where
-        swap : (a c : Bool) → _≡_ {A = ℕ} (pick a (pick c 1 0) 0) (pick (c && a) 1 0)
-        swap true true = refl
-        swap true false = refl
-        swap false true = refl
-        swap false false = refl
+    many-takes : (g e mask r : ℕ) → takeManyRefused l g e ≡ r
+        → total ps (λ p n. oneTake (opEvent (p .file) n (takeMany g e mask) (numbersOf (unlessRefused r Refused (Taken (answeredAt (starts l) (xs l) (ys l) g e mask))))))
+        ≡ opTakes (among ps) (takeMany g e mask) (numbersOf (unlessRefused r Refused (Taken (answeredAt (starts l) (xs l) (ys l) g e mask))))
+    many-takes g e mask (suc r) h = total-zero ps
+    many-takes g e mask zero h =
+        let k = many-passed l g e h in
+        let v = answeredAt (starts l) (xs l) (ys l) g e mask in
+        total-cong ps _ _ (λ p n. take-weighs (eqb g (p .file)) (eqb e (n / 64) && contains v (n % 64)))
+        ∙ file-hit ps g (λ n. pick (eqb e (n / 64) && contains v (n % 64)) 1 0) (distinct l (k .0) ps w d)
+        ∙ ap (λ (x : ℕ). pick (among ps g) x 0) (file-ones e v (k .2) (answered-lt l g e mask))
 
     op-stores : (o : Op) → total ps (λ p n. oneStore (opEvent (p .file) n o (numbersOf (answerOf l o)))) ≡ opStores (among ps) o (numbersOf (answerOf l o))
     op-stores (request mode root q value) = request-stores mode root q value _ refl
     op-stores (take g i) = total-cong ps _ _ (λ p n. take-no-store (p .file) n g i (numbersOf (answerOf l (take g i)))) ∙ total-zero ps
+    op-stores (takeMany g e mask) = total-cong ps _ _ (λ p n. many-no-store (p .file) n g e mask (numbersOf (answerOf l (takeMany g e mask)))) ∙ total-zero ps
 
     op-takes : (o : Op) → total ps (λ p n. oneTake (opEvent (p .file) n o (numbersOf (answerOf l o)))) ≡ opTakes (among ps) o (numbersOf (answerOf l o))
-    unfolding takeOf
+    unfolding takeManyOf
     op-takes (request mode root q value) =
         total-cong ps _ _ (λ p n. request-no-take (p .file) n mode root q value (numbersOf (answerOf l (request mode root q value)))) ∙ total-zero ps
-    op-takes (take g i) = take-takes g i _ refl
+    op-takes (take g i) =
+        total-cong ps _ _ (λ p n. ap oneTake (one-event l g i (p .file) n)) ∙ many-takes g (i / 64) (2 ^ (i % 64)) _ refl ∙ sym (one-weight l g i (among ps))
+    op-takes (takeMany g e mask) = many-takes g e mask _ refl
 
     -- of one call
     call-stores : (k : Asked) (a : Numbers) (after : Lent) → Faith k a after l → total ps (λ p n. oneStore (askedEvent (p .file) n k a)) ≡ askedWeight (opStores (among ps)) k a

@@ -1,21 +1,21 @@
 -- What one call keeps of one bit: it goes as the ledger's event says, and a successful take finds it at 1; and which bytes a call may change. Assumes nothing.
-use Prim.Native.Nat.{ℕ, zero, suc, _-_, _%_, _<_}
+use Prim.Native.Nat.{ℕ, zero, suc, _+_, _-_, _*_, _/_, _%_, _^_, _<_}
 use mathlib.Core.Path.{_≡_, refl, sym, ap, subst, _∙_}
 use mathlib.Core.Bool.{Bool, true, false, _&&_}
 use mathlib.Core.List.{List, [], _∷_}
 use native.Mathlib.Omega.{arith}
-use native.Mathlib.Decide.{ℕ-discrete}
 use borrow.Author.Tests.{eq-eqb, ne-eqb, eqb-true, eqb-false, leb-true}
 use lib.Dec.{eqb, leb}
-use lib.ListN.{length, getD, set}
+use lib.ListN.{length, getD}
 use lib.Seq.{getD-set-other}
 use Rattle.memory.specs.Choice.{pick, unlessRefused}
 use Rattle.memory.specs.Window.{Window, Lent, lent, holds, byteAt}
 use Rattle.memory.proofs.Truth.{and-true}
-use Rattle.interrupt_file.specs.Bit.{bitAt, withoutBit}
-use Rattle.interrupt_file.specs.File.{isFile, placeOf, pendingOf, afterStore, afterTake}
+use Rattle.word.specs.Word.{contains}
+use Rattle.interrupt_file.specs.File.{isFile, placeOf, pendingOf, afterStore, takenOf, afterTakeMany}
 use Rattle.interrupt_file.proofs.Files.{file-at}
-use Rattle.interrupt_file.proofs.Pending.{length-after-store, length-after-take, pending-lt, pending-stored, pending-taken, pending-store-other, pending-take-other}
+use Rattle.interrupt_file.proofs.Pending.{length-after-store, pending-stored, pending-store-other}
+use Rattle.interrupt_file.proofs.Many.{length-taken, answered-bit, pending-after, struck-pending, byte-kept}
 use Rattle.iommu_refusals.specs.declared.DeviceRequest.{DeviceRequest}
 use Rattle.iommu_files.specs.declared.Answer.{Answer}
 use Rattle.iommu_files.specs.declared.Answer.the-variants.{Translated, Redirected, Stored, Discarded, Fault, Refused, Taken}
@@ -23,15 +23,16 @@ use Rattle.iommu_files.specs.declared.Numbers.{Numbers}
 use Rattle.iommu_files.specs.Answers.{numbersOf}
 use Rattle.iommu_refusals.specs.Refusals.{isLentFile}
 use Rattle.iommu.specs.Request.{identityOf, storedBy, afterRequest}
-use Rattle.iommu_files.specs.Files.{changedAt, pendingAt, takenAt, takeOf, afterTakeOf}
-use Rattle.iommu.specs.Operations.{Op, request, take, answerOf, afterOf}
+use Rattle.iommu_files.specs.Files.{changedAt, answeredAt, manyTakenAt, takeManyOf, afterTakeManyOf}
+use Rattle.iommu.specs.Operations.{Op, request, take, takeMany, answerOf, afterOf}
 use Rattle.ledger.specs.Places.{Side, firstWindow, secondWindow, windowOf, Place, place, liesIn, isPlace}
-use Rattle.ledger.specs.Closes.{takeRefused}
+use Rattle.ledger.specs.Closes.{takeManyRefused}
 use Rattle.ledger.specs.Machine.{Asked, asks, asksNothing, Machine, callOf, leftBy, AllGranted}
 use Rattle.ledger.specs.Ledger.{Event, store, successfulTake, nothing, opEvent, askedEvent, eventOf, pendingIn}
 use Rattle.ledger.proofs.Machine.{step, Told, Keeps, kept-by-all}
-use Rattle.ledger.proofs.Answering.{no-way, starts, xs, ys, Apart, stored-storing, stored-low, storing-apart, take-passed}
-use Rattle.ledger.proofs.Sides.{true-false, side-changed, side-pending}
+use Rattle.ledger.proofs.Answering.{no-way, starts, xs, ys, Apart, stored-storing, stored-low, storing-apart, many-passed}
+use Rattle.ledger.proofs.Ones.{one-event, one-leaves}
+use Rattle.ledger.proofs.Sides.{true-false, side-changed, side-answered}
 
 -- a machine whose calls answer and leave what the routines do for the operations that they ask; a call that asks none is refused, and leaves all
 abbrev pub Faith : Asked → Numbers → Lent → Lent → Type 0
@@ -53,26 +54,8 @@ module _ (start : ℕ) (bytes : List ℕ) (file n : ℕ) (hf : isFile start (len
       go true false p q = pending-store-other start bytes f i h l file n hf ln (λ x y. eqb-false i n q (sym y))
       go false b p q = pending-store-other start bytes f i h l file n hf ln (λ x y. eqb-false f file p (sym x))
 
-  -- a take of f i
-  module _ (f i : ℕ) (h : isFile start (length bytes) f ≡ true) (l : i < 2048) where
-    abbrev takes : Bool → Event
-    takes t = pick t successfulTake nothing
-
-    take-moves : (a b c : Bool) → eqb f file ≡ a → eqb i n ≡ b → eqb (pendingOf start bytes f i) 1 ≡ c
-        → (pendingOf start (afterTake start bytes f i) file n ≡ step (pendingOf start bytes file n) (takes (a && (b && c))))
-        × Told (pendingOf start bytes file n) (takes (a && (b && c)))
-    take-moves true true true p q r =
-        let x = eqb-true f file p in
-        let y = eqb-true i n q in
-        (rw (← x, ← y) (pending-taken start bytes f i h l), (rw (← x, ← y) (eqb-true (pendingOf start bytes f i) 1 r)))
-    take-moves true true false p q r =
-        let z : pendingOf start bytes f i ≡ 0 = omega (arith, pending-lt start bytes f i, eqb-false (pendingOf start bytes f i) 1 r) in
-        (rw (← eqb-true f file p, ← eqb-true i n q) (pending-taken start bytes f i h l ∙ sym z), tt)
-    take-moves true false c p q r = (pending-take-other start bytes f i h l file n hf ln (λ x y. eqb-false i n q (sym y)), tt)
-    take-moves false b c p q r = (pending-take-other start bytes f i h l file n hf ln (λ x y. eqb-false f file p (sym x)), tt)
-
--- a store to f i, and a take of it, in a window that may hold f or not
-module _ (w : Window) (file n : ℕ) (hf : liesIn w file ≡ true) (ln : n < 2048) (f i : ℕ) (l : i < 2048) where
+-- in a window that may hold f or not
+module _ (w : Window) (file n : ℕ) (hf : liesIn w file ≡ true) (ln : n < 2048) (f : ℕ) where
   abbrev bit : ℕ
   bit = pendingOf (w .start) (w .bytes) file n
 
@@ -80,23 +63,35 @@ module _ (w : Window) (file n : ℕ) (hf : liesIn w file ≡ true) (ln : n < 204
   other-file : liesIn w f ≡ false → eqb f file ≡ false
   other-file h = ne-eqb f file (λ e. true-false (sym (subst (λ (x : ℕ). liesIn w x ≡ true) (sym e) hf) ∙ h))
 
-  store-side : (t : Bool) → liesIn w f ≡ t
+  -- a store to f i
+  store-side : (i : ℕ) → i < 2048 → (t : Bool) → liesIn w f ≡ t
       → pendingOf (w .start) (pick t (afterStore (w .start) (w .bytes) f i) (w .bytes)) file n ≡ step bit (pick (eqb f file && eqb i n) store nothing)
-  store-side true h = store-moves (w .start) (w .bytes) file n hf ln f i h l
-  store-side false h = rw (other-file h)
+  store-side i l true h = store-moves (w .start) (w .bytes) file n hf ln f i h l
+  store-side i l false h = rw (other-file h)
 
-  take-side : (v : ℕ) (t : Bool) → liesIn w f ≡ t → (liesIn w f ≡ true → v ≡ pendingOf (w .start) (w .bytes) f i)
-      → (pendingOf (w .start) (pick t (afterTake (w .start) (w .bytes) f i) (w .bytes)) file n ≡ step bit (pick (eqb f file && (eqb i n && eqb v 1)) successfulTake nothing))
-      × Told bit (pick (eqb f file && (eqb i n && eqb v 1)) successfulTake nothing)
-  take-side v true h e = rw (e h) (take-moves (w .start) (w .bytes) file n hf ln f i h l _ _ _ refl refl refl)
-  take-side v false h e = rw (other-file h) (refl, tt)
+  -- a take of many of f
+  module _ (d mask : ℕ) (ld : d < 32) where
+    abbrev strikes : ℕ → Bool
+    strikes v = eqb f file && (eqb d (n / 64) && contains v (n % 64))
 
--- the changes of a store and of a take
+    struck : (s : Bool) (after : ℕ) → after ≡ pick s 0 bit → (s ≡ true → bit ≡ 1) → (after ≡ step bit (pick s successfulTake nothing)) × Told bit (pick s successfulTake nothing)
+    struck true after e h = (e, h refl)
+    struck false after e h = (e, tt)
+
+    many-side : (v : ℕ) (t : Bool) → liesIn w f ≡ t → (liesIn w f ≡ true → v ≡ takenOf (w .start) (w .bytes) f d mask)
+        → (pendingOf (w .start) (pick t (afterTakeMany (w .start) (w .bytes) f d mask) (w .bytes)) file n ≡ step bit (pick (strikes v) successfulTake nothing))
+        × Told bit (pick (strikes v) successfulTake nothing)
+    many-side v true h e =
+        rw (e h)
+        (struck (strikes (takenOf (w .start) (w .bytes) f d mask)) _ (pending-after (w .start) (w .bytes) f d mask h ld file n hf ln) (struck-pending (w .start) (w .bytes) f d mask h ld file n))
+    many-side v false h e = rw (other-file h) (refl, tt)
+
+-- the changes of a store and of a take of many
 abbrev stores : ℕ → ℕ → ℕ → List ℕ → List ℕ
 stores f i start bytes = afterStore start bytes f i
 
-abbrev clears : ℕ → ℕ → ℕ → List ℕ → List ℕ
-clears f i start bytes = afterTake start bytes f i
+abbrev clears : ℕ → ℕ → ℕ → ℕ → List ℕ → List ℕ
+clears f d mask start bytes = afterTakeMany start bytes f d mask
 
 -- every operation keeps each window's place and length
 length-pick : (t : Bool) (u v : List ℕ) → length u ≡ length v → length (pick t u v) ≡ length v
@@ -127,8 +122,16 @@ lent-own : (l : Lent) (s : Side) → Same l (lent (starts l) (xs l) (ys l)) s
 lent-own l firstWindow = record { place = refl; long = refl }
 lent-own l secondWindow = record { place = refl; long = refl }
 
+many-same : (l : Lent) (f d mask : ℕ) (s : Side) → Same l (afterOf l (takeMany f d mask)) s
+unfolding afterTakeManyOf
+many-same l f d mask s = go (takeManyRefused l f d)
+  where
+    go : (r : ℕ) → Same l (unlessRefused r (λ k. lent (starts l) (xs l) (ys l)) (manyTakenAt (starts l) (xs l) (ys l) f d mask)) s
+    go zero = changed-same l f (clears f d mask) (λ start bytes. length-taken start bytes f d mask 64) s
+    go (suc r) = lent-own l s
+
 op-same : (l : Lent) (o : Op) (s : Side) → Same l (afterOf l o) s
-unfolding afterRequest afterTakeOf
+unfolding afterRequest
 op-same l (request mode root q value) s = go (answerOf l (request mode root q value))
   where
     go : (a : Answer) → Same l (storedBy (starts l) (xs l) (ys l) q value a) s
@@ -139,11 +142,8 @@ op-same l (request mode root q value) s = go (answerOf l (request mode root q va
     go (Fault f) = lent-own l s
     go (Refused r) = lent-own l s
     go (Taken w) = lent-own l s
-op-same l (take f i) s = go (takeRefused l f i)
-  where
-    go : (r : ℕ) → Same l (unlessRefused r (λ k. lent (starts l) (xs l) (ys l)) (takenAt (starts l) (xs l) (ys l) f i)) s
-    go zero = changed-same l f (clears f i) (λ start bytes. length-after-take start bytes f i) s
-    go (suc r) = lent-own l s
+op-same l (take f i) s = subst (λ (k : Lent). Same l k s) (one-leaves l f i) (many-same l f (i / 64) (2 ^ (i % 64)) s)
+op-same l (takeMany f d mask) s = many-same l f d mask s
 
 call-same : (k : Asked) (a : Numbers) (l after : Lent) (s : Side) → Faith k a after l → Same l after s
 call-same (asks o) a l after s f = subst (λ (x : Lent). Same l x s) (sym (f .1)) (op-same l o s)
@@ -203,20 +203,29 @@ module _ (p : Place) (n : ℕ) (ln : n < 2048) (l : Lent) (h : Held p l) where
   request-moves mode root q value (Refused r) e = (own-moves, tt)
   request-moves mode root q value (Taken v) e = (own-moves, tt)
 
-  take-step : (f i r : ℕ) → takeRefused l f i ≡ r
-      → (pendingIn (unlessRefused r (λ k. lent (starts l) (xs l) (ys l)) (takenAt (starts l) (xs l) (ys l) f i)) p n
-      ≡ step b (opEvent (p .file) n (take f i) (numbersOf (unlessRefused r Refused (Taken (pendingAt (starts l) (xs l) (ys l) f i))))))
-      × Told b (opEvent (p .file) n (take f i) (numbersOf (unlessRefused r Refused (Taken (pendingAt (starts l) (xs l) (ys l) f i)))))
-  take-step f i zero e =
-      let k = take-passed l f i e in
-      let t = take-side w (p .file) n h ln f i (k .2) (pendingAt (starts l) (xs l) (ys l) f i) _ refl (side-pending l f (k .0) (k .1) i (p .side)) in
-      (changed-moves f (clears f i) (k .0) (k .1) ∙ t .0, t .1)
-  take-step f i (suc r) e = (own-moves, tt)
+  -- what an operation does to the bit
+  abbrev Moves : Op → Type 0
+  Moves o = (pendingIn (afterOf l o) p n ≡ step b (opEvent (p .file) n o (numbersOf (answerOf l o)))) × Told b (opEvent (p .file) n o (numbersOf (answerOf l o)))
 
-  op-moves : (o : Op) → (pendingIn (afterOf l o) p n ≡ step b (opEvent (p .file) n o (numbersOf (answerOf l o)))) × Told b (opEvent (p .file) n o (numbersOf (answerOf l o)))
-  unfolding afterRequest takeOf afterTakeOf
+  many-step : (f d mask r : ℕ) → takeManyRefused l f d ≡ r
+      → (pendingIn (unlessRefused r (λ k. lent (starts l) (xs l) (ys l)) (manyTakenAt (starts l) (xs l) (ys l) f d mask)) p n
+      ≡ step b (opEvent (p .file) n (takeMany f d mask) (numbersOf (unlessRefused r Refused (Taken (answeredAt (starts l) (xs l) (ys l) f d mask))))))
+      × Told b (opEvent (p .file) n (takeMany f d mask) (numbersOf (unlessRefused r Refused (Taken (answeredAt (starts l) (xs l) (ys l) f d mask)))))
+  many-step f d mask zero e =
+      let k = many-passed l f d e in
+      let t = many-side w (p .file) n h ln f d mask (k .2) (answeredAt (starts l) (xs l) (ys l) f d mask) _ refl (side-answered l f (k .0) (k .1) d mask (p .side)) in
+      (changed-moves f (clears f d mask) (k .0) (k .1) ∙ t .0, t .1)
+  many-step f d mask (suc r) e = (own-moves, tt)
+
+  many-moves : (f d mask : ℕ) → Moves (takeMany f d mask)
+  unfolding takeManyOf afterTakeManyOf
+  many-moves f d mask = many-step f d mask _ refl
+
+  op-moves : (o : Op) → Moves o
+  unfolding afterRequest
   op-moves (request mode root q value) = request-moves mode root q value _ refl
-  op-moves (take f i) = take-step f i _ refl
+  op-moves (take f i) = rw (← one-leaves l f i, one-event l f i (p .file) n) (many-moves f (i / 64) (2 ^ (i % 64)))
+  op-moves (takeMany f d mask) = many-moves f d mask
 
   call-moves : (k : Asked) (a : Numbers) (after : Lent) → Faith k a after l
       → (pendingIn after p n ≡ step b (askedEvent (p .file) n k a)) × Told b (askedEvent (p .file) n k a)
@@ -227,19 +236,8 @@ module _ (p : Place) (n : ℕ) (ln : n < 2048) (l : Lent) (h : Held p l) where
 own-store : (x y : ℕ) → pick (eqb x x && eqb y y) store nothing ≡ nothing → ⊥
 own-store x y e = no-way (let s : pick (eqb x x && eqb y y) store nothing ≡ store = rw (eq-eqb x x refl, eq-eqb y y refl) in cc)
 
-own-take : (x y w : ℕ) → w ≡ 1 → pick (eqb x x && (eqb y y && eqb w 1)) successfulTake nothing ≡ nothing → ⊥
-own-take x y w h e = no-way (let s : pick (eqb x x && (eqb y y && eqb w 1)) successfulTake nothing ≡ successfulTake = rw (eq-eqb x x refl, eq-eqb y y refl, eq-eqb w 1 h) in cc)
-
-set-own : (xs : List ℕ) (k i : ℕ) → getD (set xs k (getD xs k 0)) i 0 ≡ getD xs i 0
-set-own [] k i = refl
-set-own (x ∷ xs) zero zero = refl
-set-own (x ∷ xs) zero (suc i) = refl
-set-own (x ∷ xs) (suc k) zero = refl
-set-own (x ∷ xs) (suc k) (suc i) = set-own xs k i
-
-low-kept : (k v : ℕ) → bitAt k v ≡ 0 → withoutBit k v ≡ v
-unfolding withoutBit
-low-kept k v e = rw e (omega arith)
+own-take : (x : ℕ) (t : Bool) → t ≡ true → pick (eqb x x && t) successfulTake nothing ≡ nothing → ⊥
+own-take x t h e = no-way (let s : pick (eqb x x && t) successfulTake nothing ≡ successfulTake = rw (eq-eqb x x refl, h) in cc)
 
 -- a byte of a window, where no pending bit that it holds has an event
 module _ (w : Window) (a : ℕ) (inw : holds w a 1 ≡ true) where
@@ -256,23 +254,16 @@ module _ (w : Window) (a : ℕ) (inw : holds w a 1 ≡ true) where
   store-quiet f n true h k = getD-set-other (w .bytes) _ (a - w .start) _ 0 (λ e. k h (index-is f n h e))
   store-quiet f n false h k = refl
 
-  take-quiet : (f n : ℕ) (t : Bool) → liesIn w f ≡ t → (liesIn w f ≡ true → a ≡ placeOf f n → pendingOf (w .start) (w .bytes) f n ≡ 1 → ⊥)
-      → getD (pick t (afterTake (w .start) (w .bytes) f n) (w .bytes)) (a - w .start) 0 ≡ byteAt w a
-  unfolding afterTake pendingOf
-  take-quiet f n false h k = refl
-  take-quiet f n true h k = go (ℕ-discrete (a - w .start) (placeOf f n - w .start))
+  many-quiet : (f d mask : ℕ) → d < 32 → (t : Bool) → liesIn w f ≡ t
+      → (liesIn w f ≡ true → (n : ℕ) → n < 2048 → a ≡ placeOf f n → (eqb d (n / 64) && contains (takenOf (w .start) (w .bytes) f d mask) (n % 64)) ≡ true → ⊥)
+      → getD (pick t (afterTakeMany (w .start) (w .bytes) f d mask) (w .bytes)) (a - w .start) 0 ≡ byteAt w a
+  many-quiet f d mask ld false h k = refl
+  many-quiet f d mask ld true h k =
+      byte-kept (w .start) (w .bytes) f d mask h ld (a - w .start) 64 (omega arith)
+      (λ r l c v e. k h (64 * d + r) (omega arith) (index-is f (64 * d + r) h e) (rw (eq-eqb d ((64 * d + r) / 64) (omega arith), low r l, answered-bit (w .start) (w .bytes) f d mask h ld r l, c, eq-eqb (pendingOf (w .start) (w .bytes) f (64 * d + r)) 1 v)))
     where
-      go : Dec (a - w .start ≡ placeOf f n - w .start)
-          → getD (set (w .bytes) (placeOf f n - w .start) (withoutBit (n % 8) (getD (w .bytes) (placeOf f n - w .start) 0))) (a - w .start) 0 ≡ byteAt w a
-      go (no d) = getD-set-other (w .bytes) _ (a - w .start) _ 0 d
-      go (yes e) =
-          let z : bitAt (n % 8) (getD (w .bytes) (placeOf f n - w .start) 0) ≡ 0 = at0 (ℕ-discrete (pendingOf (w .start) (w .bytes) f n) 1) in
-          ap (λ (v : ℕ). getD (set (w .bytes) (placeOf f n - w .start) v) (a - w .start) 0) (low-kept (n % 8) (getD (w .bytes) (placeOf f n - w .start) 0) z)
-          ∙ set-own (w .bytes) (placeOf f n - w .start) (a - w .start)
-        where
-          at0 : Dec (pendingOf (w .start) (w .bytes) f n ≡ 1) → pendingOf (w .start) (w .bytes) f n ≡ 0
-          at0 (yes v) = absurd (k h (index-is f n h e) v)
-          at0 (no v) = omega (arith, v, pending-lt (w .start) (w .bytes) f n)
+      low : (r : ℕ) → r < 64 → (64 * d + r) % 64 ≡ r
+      low r l = omega arith
 
 -- the byte at a holds no pending bit for which there is an event
 abbrev pub Quiet : Lent → Side → ℕ → (ℕ → ℕ → Event) → Type 0
@@ -312,20 +303,28 @@ module _ (l : Lent) (s : Side) (a : ℕ) (inw : holds (windowOf l s) a 1 ≡ tru
   request-quiet mode root q value (Refused r) e h = own-byte
   request-quiet mode root q value (Taken v) e h = own-byte
 
-  taken-quiet : (f n r : ℕ) → takeRefused l f n ≡ r
-      → Quiet l s a (λ file i. opEvent file i (take f n) (numbersOf (unlessRefused r Refused (Taken (pendingAt (starts l) (xs l) (ys l) f n)))))
-      → byteAt (windowOf (unlessRefused r (λ k. lent (starts l) (xs l) (ys l)) (takenAt (starts l) (xs l) (ys l) f n)) s) a ≡ byteAt (windowOf l s) a
-  taken-quiet f n (suc r) e h = own-byte
-  taken-quiet f n zero e h =
-      let k = take-passed l f n e in
-      changed-byte f (clears f n) (k .0) (k .1)
-      ∙ take-quiet (windowOf l s) a inw f n _ refl
-      (λ t p v. own-take f n (pendingAt (starts l) (xs l) (ys l) f n) (side-pending l f (k .0) (k .1) n s t ∙ v) (h f n t (k .2) p))
+  taken-quiet : (f d mask r : ℕ) → takeManyRefused l f d ≡ r
+      → Quiet l s a (λ file i. opEvent file i (takeMany f d mask) (numbersOf (unlessRefused r Refused (Taken (answeredAt (starts l) (xs l) (ys l) f d mask)))))
+      → byteAt (windowOf (unlessRefused r (λ k. lent (starts l) (xs l) (ys l)) (manyTakenAt (starts l) (xs l) (ys l) f d mask)) s) a ≡ byteAt (windowOf l s) a
+  taken-quiet f d mask (suc r) e h = own-byte
+  taken-quiet f d mask zero e h =
+      let k = many-passed l f d e in
+      changed-byte f (clears f d mask) (k .0) (k .1)
+      ∙ many-quiet (windowOf l s) a inw f d mask (k .2) _ refl
+      (λ t n ln p v. own-take f _ (ap (λ (x : ℕ). eqb d (n / 64) && contains x (n % 64)) (side-answered l f (k .0) (k .1) d mask s t) ∙ v) (h f n t ln p))
+
+  many-quietly : (f d mask : ℕ) → Quiet l s a (λ file n. opEvent file n (takeMany f d mask) (numbersOf (answerOf l (takeMany f d mask))))
+      → byteAt (windowOf (afterOf l (takeMany f d mask)) s) a ≡ byteAt (windowOf l s) a
+  unfolding takeManyOf afterTakeManyOf
+  many-quietly f d mask h = taken-quiet f d mask _ refl h
 
   op-quiet : (o : Op) → Quiet l s a (λ file n. opEvent file n o (numbersOf (answerOf l o))) → byteAt (windowOf (afterOf l o) s) a ≡ byteAt (windowOf l s) a
-  unfolding afterRequest takeOf afterTakeOf
+  unfolding afterRequest
   op-quiet (request mode root q value) h = request-quiet mode root q value _ refl h
-  op-quiet (take f n) h = taken-quiet f n _ refl h
+  op-quiet (take f i) h =
+      ap (λ (k : Lent). byteAt (windowOf k s) a) (sym (one-leaves l f i))
+      ∙ many-quietly f (i / 64) (2 ^ (i % 64)) (λ file n k ln e. sym (one-event l f i file n) ∙ h file n k ln e)
+  op-quiet (takeMany f d mask) h = many-quietly f d mask h
 
   call-quiet : (k : Asked) (c : Numbers) (after : Lent) → Faith k c after l → Quiet l s a (λ file n. askedEvent file n k c) → byteAt (windowOf after s) a ≡ byteAt (windowOf l s) a
   call-quiet (asks o) c after f h =

@@ -1,5 +1,6 @@
 pub mod Machine
 pub mod Answering
+pub mod Ones
 pub mod Sides
 pub mod Keeping
 pub mod SumLaws

@@ -1,68 +1,40 @@
 -- Reports of a file before and after a list of calls differ by the ledger's counts. Assumes nothing.
-use Prim.Native.Nat.{ℕ, zero, suc, _+_, _-_, _%_, _^_, _<_}
-use mathlib.Core.Path.{_≡_, refl, sym, ap, _∙_}
+use Prim.Native.Nat.{ℕ, zero, suc, _+_, _-_, _/_, _%_, _^_}
+use mathlib.Core.Path.{_≡_, refl, sym, ap, subst, _∙_}
 use mathlib.Core.Bool.{Bool, true, false, not}
 use mathlib.Core.List.{List, [], _∷_}
 use native.Mathlib.Omega.{arith}
-use lib.Bits.{or-lt}
-use lib.Pow.{pow-lt}
 use lib.Dec.{eqb}
-use lib.ListN.{length, getD, set, drop, take as listTake}
+use lib.ListN.{length, drop, take as listTake}
 use Rattle.memory.specs.Choice.{pick, unlessRefused}
 use Rattle.memory.specs.Window.{Lent, inside, lent, partOf}
 use Rattle.memory.proofs.Truth.{and-true}
-use Rattle.interrupt_file.specs.Bit.{withBit, withoutBit}
-use Rattle.interrupt_file.specs.File.{isFile, placeOf, afterStore, afterTake}
+use Rattle.interrupt_file.specs.File.{isFile, afterStore, afterTakeMany}
 use Rattle.interrupt_file.specs.Report.{countOf, fileReport}
 use Rattle.interrupt_file.specs.declared.Report.{Report}
-use Rattle.interrupt_file.proofs.Bits.{or-pow}
+use Rattle.interrupt_file.proofs.Bytes.{Bytes, store-bytes}
+use Rattle.interrupt_file.proofs.Many.{taken-bytes}
 use Rattle.interrupt_file.proofs.Files.{file-at}
 use Rattle.iommu_files.specs.declared.Answer.{Answer}
 use Rattle.iommu_files.specs.declared.Answer.the-variants.{Translated, Redirected, Stored, Discarded, Fault, Refused, Taken}
 use Rattle.iommu_refusals.specs.Refusals.{badWindows, overlap, isLentFile, reportRefusal}
 use Rattle.iommu.specs.Request.{identityOf, storedBy, afterRequest}
-use Rattle.iommu_files.specs.Files.{changedAt, takenAt, afterTakeOf, reportOf}
+use Rattle.iommu_files.specs.Files.{changedAt, manyTakenAt, afterTakeManyOf, reportOf}
 use Rattle.iommu_files.proofs.Files.{report-made}
-use Rattle.iommu.specs.Operations.{Op, request, take, startsOf, answerOf, afterOf}
+use Rattle.iommu.specs.Operations.{Op, request, take, takeMany, startsOf, answerOf, afterOf}
 use Rattle.ledger.specs.Places.{Side, firstWindow, secondWindow, windowOf, Place, liesIn, isPlace}
 use Rattle.ledger.specs.Machine.{routines, leftBy, history}
 use Rattle.ledger.specs.Ledger.{pendingIn}
 use Rattle.ledger.specs.Sums.{ofFile, total, among, opStores, opTakes, addedUp}
-use Rattle.ledger.specs.Closes.{takeRefused, left, accountAfter, pendingAfter}
+use Rattle.ledger.specs.Closes.{takeManyRefused, left, accountAfter, pendingAfter}
 use Rattle.ledger.proofs.Keeping.{same-held, list-same}
 use Rattle.ledger.proofs.Answering.{starts, xs, ys, Apart, windows-apart}
+use Rattle.ledger.proofs.Ones.{one-leaves}
 use Rattle.ledger.proofs.Sides.{both-overlap}
 use Rattle.ledger.proofs.Closing.{routines-faithful, routines-granted, closes}
 use Rattle.ledger.proofs.Corollaries.{change}
 use Rattle.ledger.proofs.Whole.{counted-all}
 use Rattle.ledger.proofs.Reported.{pending-counted}
-
--- every element is a byte, as in a lent window
-abbrev pub Bytes : List ℕ → Type 0
-Bytes xs = (i : ℕ) → getD xs i 0 < 256
-
-set-lt : (k v : ℕ) → k < 8 → v < 256 → withBit k v < 256
-set-lt k v l h = rw (← or-pow k v) (or-lt 8 v (2 ^ k) h (pow-lt l))
-
-cleared-lt : (k v : ℕ) → v < 256 → withoutBit k v < 256
-unfolding withoutBit
-cleared-lt k v h = omega arith
-
-set-bytes : (xs : List ℕ) (i v : ℕ) → v < 256 → Bytes xs → Bytes (set xs i v)
-set-bytes [] i v l h j = h j
-set-bytes (x ∷ xs) zero v l h zero = l
-set-bytes (x ∷ xs) zero v l h (suc j) = h (suc j)
-set-bytes (x ∷ xs) (suc i) v l h zero = h 0
-set-bytes (x ∷ xs) (suc i) v l h (suc j) = set-bytes xs i v l (λ k. h (suc k)) j
-
-module _ (start : ℕ) where
-  store-bytes : (bytes : List ℕ) (file n : ℕ) → Bytes bytes → Bytes (afterStore start bytes file n)
-  unfolding afterStore
-  store-bytes bytes file n h = set-bytes bytes _ _ (set-lt (n % 8) _ (omega arith) (h (placeOf file n - start))) h
-
-  take-bytes : (bytes : List ℕ) (file n : ℕ) → Bytes bytes → Bytes (afterTake start bytes file n)
-  unfolding afterTake
-  take-bytes bytes file n h = set-bytes bytes _ _ (cleared-lt (n % 8) _ (h (placeOf file n - start))) h
 
 -- in each window
 abbrev pub AllBytes : Lent → Type 0
@@ -81,8 +53,16 @@ own-bytes : (l : Lent) → AllBytes l → AllBytes (lent (starts l) (xs l) (ys l
 own-bytes l h firstWindow = h firstWindow
 own-bytes l h secondWindow = h secondWindow
 
+many-bytes : (l : Lent) (f d mask : ℕ) → AllBytes l → AllBytes (afterOf l (takeMany f d mask))
+unfolding afterTakeManyOf
+many-bytes l f d mask h = go (takeManyRefused l f d)
+  where
+    go : (r : ℕ) → AllBytes (unlessRefused r (λ k. lent (starts l) (xs l) (ys l)) (manyTakenAt (starts l) (xs l) (ys l) f d mask))
+    go zero = changed-bytes l f (λ start bytes. afterTakeMany start bytes f d mask) (λ start bytes. taken-bytes start bytes f d mask 64) h
+    go (suc r) = own-bytes l h
+
 op-bytes : (l : Lent) (o : Op) → AllBytes l → AllBytes (afterOf l o)
-unfolding afterRequest afterTakeOf
+unfolding afterRequest
 op-bytes l (request mode root q value) h = go (answerOf l (request mode root q value))
   where
     go : (a : Answer) → AllBytes (storedBy (starts l) (xs l) (ys l) q value a)
@@ -93,11 +73,8 @@ op-bytes l (request mode root q value) h = go (answerOf l (request mode root q v
     go (Fault f) = own-bytes l h
     go (Refused r) = own-bytes l h
     go (Taken w) = own-bytes l h
-op-bytes l (take f i) h = go (takeRefused l f i)
-  where
-    go : (r : ℕ) → AllBytes (unlessRefused r (λ k. lent (starts l) (xs l) (ys l)) (takenAt (starts l) (xs l) (ys l) f i))
-    go zero = changed-bytes l f (λ start bytes. afterTake start bytes f i) (λ start bytes. take-bytes start bytes f i) h
-    go (suc r) = own-bytes l h
+op-bytes l (take f i) h = subst AllBytes (one-leaves l f i) (many-bytes l f (i / 64) (2 ^ (i % 64)) h)
+op-bytes l (takeMany f d mask) h = many-bytes l f d mask h
 
 pub left-bytes : (l : Lent) (ops : List Op) → AllBytes l → AllBytes (leftBy routines l ops)
 unfolding leftBy

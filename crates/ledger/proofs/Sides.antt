@@ -8,10 +8,10 @@ use borrow.Author.Tests.{lt-ltb, ne-eqb}
 use lib.ListN.{length}
 use Rattle.memory.specs.Choice.{pick}
 use Rattle.memory.specs.Window.{Lent}
-use Rattle.interrupt_file.specs.File.{pendingOf}
+use Rattle.interrupt_file.specs.File.{pendingOf, takenOf}
 use Rattle.interrupt_file.proofs.Files.{file-at}
 use Rattle.iommu_refusals.specs.Refusals.{overlap, isLentFile}
-use Rattle.iommu_files.specs.Files.{changedAt, pendingAt}
+use Rattle.iommu_files.specs.Files.{changedAt, pendingAt, answeredAt}
 use Rattle.ledger.specs.Places.{Side, firstWindow, secondWindow, windowOf, liesIn}
 use Rattle.ledger.proofs.Answering.{no-way, starts, xs, ys, Apart}
 
@@ -61,7 +61,12 @@ module _ (l : Lent) (f : ℕ) (apart : Apart l) (held : isLentFile (starts l) (l
   side-changed change secondWindow =
       ap (λ (b : Bool). pick b (ys l) (change (l .second .start) (ys l))) first-is ∙ flip (liesIn (l .second) f) (ys l) (change (l .second .start) (ys l))
 
-  -- its pending bit, by the window in which it lies
+  -- its pending bit and its answered bits, by the window in which it lies
   pub side-pending : (i : ℕ) (s : Side) → liesIn (windowOf l s) f ≡ true → pendingAt (starts l) (xs l) (ys l) f i ≡ pendingOf (windowOf l s .start) (windowOf l s .bytes) f i
   side-pending i firstWindow h = simp h
   side-pending i secondWindow h = let o : liesIn (l .first) f ≡ false = first-is ∙ ap not h in simp o
+
+  pub side-answered : (d mask : ℕ) (s : Side) → liesIn (windowOf l s) f ≡ true
+      → answeredAt (starts l) (xs l) (ys l) f d mask ≡ takenOf (windowOf l s .start) (windowOf l s .bytes) f d mask
+  side-answered d mask firstWindow h = simp h
+  side-answered d mask secondWindow h = let o : liesIn (l .first) f ≡ false = first-is ∙ ap not h in simp o

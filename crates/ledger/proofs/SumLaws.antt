@@ -1,14 +1,20 @@
 -- Laws of the sums. Assumes nothing.
-use Prim.Native.Nat.{ℕ, zero, suc, _+_, _<_}
-use mathlib.Core.Path.{_≡_, refl, ap, ap₂, fun-ext, subst}
+use Prim.Native.Nat.{ℕ, zero, suc, _+_, _*_, _/_, _%_, _^_, _<_}
+use mathlib.Core.Path.{_≡_, refl, sym, ap, ap₂, fun-ext, subst, _∙_}
 use mathlib.Core.List.{List, [], _∷_}
 use mathlib.Core.Bool.{Bool, true, false, _&&_, _||_}
+use native.Mathlib.Nat.{add-suc, add-zero, suc-mul, pow-suc, zero-mul}
 use native.Mathlib.Omega.{arith}
 use native.Mathlib.Decide.{ℕ-discrete}
 use borrow.Author.Tests.{eqb-true, eq-eqb, ne-eqb}
+use lib.Arith.{lt-one}
+use lib.Count.{ones, ones-step}
 use lib.Dec.{eqb}
 use Rattle.memory.specs.Choice.{pick}
 use Rattle.memory.specs.Window.{Lent}
+use Rattle.word.specs.Word.{contains}
+use Rattle.interrupt_file.specs.Bit.{bitAt}
+use Rattle.interrupt_file.proofs.Bits.{bit-zero, bit-suc, bit-lt}
 use Rattle.ledger.specs.Places.{Side, firstWindow, secondWindow, windowOf, Place, sameSide, samePlace, liesIn, isPlace}
 use Rattle.ledger.specs.Sums.{sumTo, ofFile, total, listed, among, Different, Places}
 use Rattle.ledger.proofs.Answering.{Apart}
@@ -29,6 +35,39 @@ pub to-zero : (k : ℕ) (g : ℕ → ℕ) → ((n : ℕ) → n < k → g n ≡ 0
 unfolding sumTo
 to-zero zero g e = refl
 to-zero (suc k) g e = omega (arith, e k (omega arith), to-zero k g (λ n l. e n (omega arith)))
+
+-- sums in parts
+to-front : (k : ℕ) (g : ℕ → ℕ) → sumTo (suc k) g ≡ g 0 + sumTo k (λ n. g (suc n))
+unfolding sumTo
+to-front zero g = omega arith
+to-front (suc k) g = omega (arith, to-front k g)
+
+to-append : (a b : ℕ) (g : ℕ → ℕ) → sumTo (a + b) g ≡ sumTo a g + sumTo b (λ r. g (a + r))
+unfolding sumTo
+to-append a zero g = rw (add-zero a) (omega arith)
+to-append a (suc b) g = rw add-suc (omega (arith, to-append a b g))
+
+pub to-split : (q b : ℕ) (g : ℕ → ℕ) → sumTo (q * b) g ≡ sumTo q (λ i. sumTo b (λ r. g (i * b + r)))
+unfolding sumTo
+to-split zero b g = rw zero-mul
+to-split (suc q) b g = rw (suc-mul, to-append (q * b) b g) (omega (arith, to-split q b g))
+
+-- the ones of a number are its bits added up
+pub ones-none : ones 0 ≡ 0
+unfolding ones
+ones-none = refl
+
+pub ones-sum : (k v : ℕ) → v < 2 ^ k → ones v ≡ sumTo k (λ j. bitAt j v)
+unfolding sumTo
+ones-sum zero v l = rw (lt-one l) ones-none
+ones-sum (suc k) v l =
+    let h : v / 2 < 2 ^ k = omega (arith, rw pow-suc at l) in
+    ones-step v ∙ ap (λ (x : ℕ). v % 2 + x) (ones-sum k (v / 2) h ∙ to-ext k _ _ (λ j p. sym (bit-suc j v)))
+    ∙ ap (λ (x : ℕ). x + sumTo k (λ j. bitAt (suc j) v)) (sym (bit-zero v)) ∙ sym (to-front k (λ j. bitAt j v))
+
+to-pick : (k : ℕ) (g : ℕ → ℕ) (b : Bool) → sumTo k (λ n. pick b (g n) 0) ≡ pick b (sumTo k g) 0
+to-pick k g true = refl
+to-pick k g false = to-zero k (λ n. 0) (λ n l. refl)
 
 -- where one identity counts
 one-to : (k i x : ℕ) → i < k → sumTo k (λ n. pick (eqb i n) x 0) ≡ x
@@ -54,13 +93,13 @@ unfolding ofFile
 file-zero = to-zero _ _ (λ n l. refl)
 
 -- each of the 2,048 counts once
-file-one : (i x : ℕ) → i < 2048 → ofFile (λ n. pick (eqb i n) x 0) ≡ x
+pub file-one : (i x : ℕ) → i < 2048 → ofFile (λ n. pick (eqb i n) x 0) ≡ x
 unfolding ofFile
 file-one i x l = one-to _ i x (omega arith)
 
-one-file : (i x : ℕ) → i < 2048 → (b : Bool) → ofFile (λ n. pick (b && eqb i n) x 0) ≡ pick b x 0
-one-file i x l true = file-one i x l
-one-file i x l false = file-zero
+by-file : (g : ℕ → ℕ) (b : Bool) → ofFile (λ n. pick b (g n) 0) ≡ pick b (ofFile g) 0
+by-file g true = refl
+by-file g false = file-zero
 
 -- of the files of a list
 pub total-add : (ps : List Place) (g h : Place → ℕ → ℕ) → total ps (λ p n. g p n + h p n) ≡ total ps g + total ps h
@@ -87,16 +126,44 @@ abbrev pub Distinct : List Place → Type 0
 Distinct [] = Unit {0}
 Distinct (p ∷ ps) = (among ps (p .file) ≡ false) × Distinct ps
 
--- where one identity of one file counts: files at different addresses count it once
-pub one-hit : (ps : List Place) (file i x : ℕ) → Distinct ps → i < 2048
-    → total ps (λ p n. pick (eqb file (p .file) && eqb i n) x 0) ≡ pick (among ps file) x 0
+-- where the identities of one file count: files at different addresses count them once
+pub file-hit : (ps : List Place) (file : ℕ) (g : ℕ → ℕ) → Distinct ps → total ps (λ p n. pick (eqb file (p .file)) (g n) 0) ≡ pick (among ps file) (ofFile g) 0
 unfolding total
-one-hit [] file i x d l = refl
-one-hit (p ∷ ps) file i x d l = rw (one-file i x l (eqb file (p .file)), one-hit ps file i x (d .1) l) (go (eqb file (p .file)) refl)
+file-hit [] file g d = refl
+file-hit (p ∷ ps) file g d = rw (by-file g (eqb file (p .file)), file-hit ps file g (d .1)) (go (eqb file (p .file)) refl)
   where
-    go : (t : Bool) → eqb file (p .file) ≡ t → pick t x 0 + pick (among ps file) x 0 ≡ pick (t || among ps file) x 0
+    go : (t : Bool) → eqb file (p .file) ≡ t → pick t (ofFile g) 0 + pick (among ps file) (ofFile g) 0 ≡ pick (t || among ps file) (ofFile g) 0
     go true e = rw (eqb-true file (p .file) e, d .0) (omega arith)
     go false e = omega arith
+
+-- the ones of a doubleword's bits are those of its identities
+pub file-ones : (d v : ℕ) → d < 32 → v < 2 ^ 64 → ofFile (λ n. pick (eqb d (n / 64) && contains v (n % 64)) 1 0) ≡ ones v
+unfolding ofFile contains bitAt
+file-ones d v ld lv =
+    to-split 32 64 (λ n. pick (eqb d (n / 64) && contains v (n % 64)) 1 0)
+    ∙ to-ext 32 _ _ (λ i p. to-ext 64 _ _ (λ r q. bit-at i r q) ∙ to-pick 64 (λ r. bitAt r v) (eqb d i))
+    ∙ one-to 32 d (sumTo 64 (λ r. bitAt r v)) ld ∙ sym (ones-sum 64 v lv)
+  where
+    quotient : (i r : ℕ) → r < 64 → (i * 64 + r) / 64 ≡ i
+    quotient i r q = omega arith
+
+    rest : (i r : ℕ) → r < 64 → (i * 64 + r) % 64 ≡ r
+    rest i r q = omega arith
+
+    digit : (x : ℕ) → x < 2 → _≡_ {A = ℕ} (pick (eqb x 1) 1 0) x
+    digit zero l = refl
+    digit (suc zero) l = refl
+    digit (suc (suc x)) l = absurd (omega arith)
+
+    both : (a b : Bool) (x : ℕ) → _≡_ {A = ℕ} (pick b 1 0) x → _≡_ {A = ℕ} (pick (a && b) 1 0) (pick a x 0)
+    both true b x e = e
+    both false b x e = refl
+
+    digit-of : (r : ℕ) → _≡_ {A = ℕ} (pick (contains v r) 1 0) (bitAt r v)
+    digit-of r = digit (bitAt r v) (bit-lt r v)
+
+    bit-at : (i r : ℕ) → r < 64 → _≡_ {A = ℕ} (pick (eqb d ((i * 64 + r) / 64) && contains v ((i * 64 + r) % 64)) 1 0) (pick (eqb d i) (bitAt r v) 0)
+    bit-at i r q = rw (quotient i r q, rest i r q) (both (eqb d i) (contains v r) (bitAt r v) (digit-of r))
 
 -- different files of windows that are apart are at different addresses
 module _ (l : Lent) (apart : Apart l) where

@@ -1,6 +1,6 @@
 -- The change in pending bits over all files of both windows: every store and every successful take counts. Assumes nothing.
-use Prim.Native.Nat.{ℕ, zero, suc, _+_}
-use mathlib.Core.Path.{_≡_, refl, ap₂, sym}
+use Prim.Native.Nat.{ℕ, zero, suc, _+_, _/_, _%_, _^_}
+use mathlib.Core.Path.{_≡_, refl, ap₂, sym, _∙_}
 use mathlib.Core.Bool.{Bool, true, false, _||_}
 use mathlib.Core.List.{List, [], _∷_}
 use lib.ListN.{length}
@@ -10,15 +10,16 @@ use Rattle.iommu_refusals.specs.Refusals.{isLentFile}
 use Rattle.iommu_files.specs.declared.Answer.{Answer}
 use Rattle.iommu_files.specs.declared.Answer.the-variants.{Translated, Redirected, Stored, Discarded, Fault, Refused, Taken}
 use Rattle.iommu_files.specs.Answers.{numbersOf}
-use Rattle.iommu_files.specs.Files.{pendingAt, takeOf}
-use Rattle.iommu.specs.Operations.{Op, request, take, answerOf}
+use Rattle.iommu_files.specs.Files.{answeredAt, takeManyOf}
+use Rattle.iommu.specs.Operations.{Op, request, take, takeMany, answerOf}
 use Rattle.ledger.specs.Places.{Side, firstWindow, secondWindow, Place, place, liesIn, isPlace}
 use Rattle.ledger.specs.Machine.{routines, history}
 use Rattle.ledger.specs.Ledger.{pendingIn}
 use Rattle.ledger.specs.Sums.{total, among, Places, opStores, opTakes, addedUp}
-use Rattle.ledger.specs.Closes.{AllCounted, takeRefused, accountAfter, pendingAfter}
+use Rattle.ledger.specs.Closes.{AllCounted, takeManyRefused, accountAfter, pendingAfter}
 use Rattle.ledger.specs.Whole.{allFiles}
-use Rattle.ledger.proofs.Answering.{starts, xs, ys, stored-storing, take-passed}
+use Rattle.ledger.proofs.Answering.{starts, xs, ys, stored-storing, many-passed}
+use Rattle.ledger.proofs.Ones.{one-weight}
 use Rattle.ledger.proofs.Sides.{true-false}
 use Rattle.ledger.proofs.Keeping.{Same, same-held, step-same}
 use Rattle.ledger.proofs.Files.{files-different, files-are, files-all}
@@ -60,17 +61,23 @@ module _ (files : List Place) where
         go (Refused r) e = refl
         go (Taken w) e = refl
     op-store (take f i) = refl
+    op-store (takeMany f d mask) = refl
+
+    many-take : (f d mask : ℕ)
+        → opTakes (among files) (takeMany f d mask) (numbersOf (answerOf l (takeMany f d mask))) ≡ opTakes every (takeMany f d mask) (numbersOf (answerOf l (takeMany f d mask)))
+    unfolding takeManyOf
+    many-take f d mask = go (takeManyRefused l f d) refl
+      where
+        go : (r : ℕ) → takeManyRefused l f d ≡ r
+            → opTakes (among files) (takeMany f d mask) (numbersOf (unlessRefused r Refused (Taken (answeredAt (starts l) (xs l) (ys l) f d mask))))
+            ≡ opTakes every (takeMany f d mask) (numbersOf (unlessRefused r Refused (Taken (answeredAt (starts l) (xs l) (ys l) f d mask))))
+        go zero e = rw (full-lent f (many-passed l f d e .1))
+        go (suc r) e = refl
 
     op-take : (o : Op) → opTakes (among files) o (numbersOf (answerOf l o)) ≡ opTakes every o (numbersOf (answerOf l o))
-    unfolding takeOf
     op-take (request mode root q value) = refl
-    op-take (take f i) = go (takeRefused l f i) refl
-      where
-        go : (r : ℕ) → takeRefused l f i ≡ r
-            → opTakes (among files) (take f i) (numbersOf (unlessRefused r Refused (Taken (pendingAt (starts l) (xs l) (ys l) f i))))
-            ≡ opTakes every (take f i) (numbersOf (unlessRefused r Refused (Taken (pendingAt (starts l) (xs l) (ys l) f i))))
-        go zero e = rw (full-lent f (take-passed l f i e .1))
-        go (suc r) e = refl
+    op-take (take f i) = one-weight l f i (among files) ∙ many-take f (i / 64) (2 ^ (i % 64)) ∙ sym (one-weight l f i every)
+    op-take (takeMany f d mask) = many-take f d mask
 
   all-stores : (l : Lent) (ops : List Op) → Full l → addedUp routines (opStores (among files)) (history routines l ops) ≡ addedUp routines (opStores every) (history routines l ops)
   unfolding history addedUp
@@ -88,7 +95,7 @@ pub counted-all : (l : Lent) (ops : List Op) (places : List Place) → Places l 
 counted-all l ops [] w = tt
 counted-all l ops (p ∷ ps) w = (record { within = w .0; counts = tt }, counted-all l ops ps (w .1))
 
--- pending bits of both windows at the start + requests answered 2 ≡ takes answered 6 with 1 + merged stores + pending bits at the end
+-- pending bits of both windows at the start + requests answered 2 ≡ takes answered 6 with 1, and answered bits of takes of many + merged stores + pending bits at the end
 pub change-whole : (l : Lent) (ops : List Op)
     → total (allFiles l) (pendingIn l) + addedUp routines (opStores every) (history routines l ops)
     ≡ addedUp routines (opTakes every) (history routines l ops) + total (allFiles l) (λ p n. accountAfter routines l ops p n .merged)

@@ -25,7 +25,7 @@ use Rattle.iommu_refusals.specs.Refusals.{badWindow, overlap, requestRefusal, t
 use Rattle.iommu_translation.specs.Translate.{untranslated, isMessage, guestOf, stagesOf, directoryOf, translateOf}
 use Rattle.iommu.specs.Request.{storableAs, finish, requestOf, afterRequest}
 use Rattle.iommu_files.specs.Files.{takeOf, afterTakeOf}
-use Rattle.iommu.specs.Operations.{Op, request, take}
+use Rattle.iommu.specs.Operations.{Op, request, take, takeMany}
 use Rattle.ledger.specs.Places.{firstWindow}
 use Rattle.ledger.specs.Machine.{leftBy, history}
 use Rattle.ledger.specs.Ledger.{enteredAll, accountOf}
@@ -58,6 +58,7 @@ overwriting-breaks c =
 abbrev otherRoot : Op → Op
 otherRoot (request mode root q d) = request mode 0x40000 q d
 otherRoot (take file n) = take file n
+otherRoot (takeMany file d mask) = takeMany file d mask
 
 abbrev pub rootless : Machine Op
 rootless =
