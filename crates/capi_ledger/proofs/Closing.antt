@@ -1,4 +1,4 @@
--- THE LEDGER CLOSES for any list of C calls: requests and takes, in any order, with any buffers, accesses and flags. Assumes nothing.
+-- THE LEDGER CLOSES for any list of C calls: requests and takes, of one and of many, in any order, with any buffers, accesses and flags. Assumes nothing.
 use Prim.Native.Nat.{ℕ, _≤_}
 use mathlib.Core.Path.{_≡_, refl}
 use mathlib.Core.Bool.{Bool, true, false}
@@ -14,7 +14,7 @@ use Rattle.iommu_files.specs.declared.Answer.{Answer}
 use Rattle.iommu_files.specs.declared.Answer.the-variants.{Refused}
 use Rattle.iommu_files.specs.Answers.{numbersOf}
 use Rattle.memory.specs.Window.{Lent}
-use Rattle.iommu.specs.Operations.{Op, request, take, answerOf, afterOf}
+use Rattle.iommu.specs.Operations.{Op, request, take, takeMany, answerOf, afterOf}
 use Rattle.ledger.specs.Machine.{asks, asksNothing, AllGranted}
 use Rattle.ledger.specs.Closes.{Closes}
 use Rattle.ledger.proofs.Keeping.{Faith, Faithful}
@@ -23,7 +23,7 @@ use Rattle.capi_room.specs.Room.{status, fitting}
 use Rattle.capi_iommu.specs.declared.Chosen.{Chosen}
 use Rattle.capi_iommu.specs.declared.Chosen.the-variants.{Known, Unknown}
 use Rattle.capi_iommu.specs.Face.{chosenOf, asked, withAnswer, chosenFace, chosenBytes, requestFace, afterFace}
-use Rattle.capi_iommu.specs.Calls.{CCall, requested, taken}
+use Rattle.capi_iommu.specs.Calls.{CCall, requested, taken, takenMany}
 use Rattle.capi_ledger.specs.CCalls.{chosenAsked, numbersTold, functions}
 
 -- an answer that was put into a buffer with room is read from it
@@ -59,16 +59,18 @@ module _ (l : Lent) (mode root device process flags access address len value : �
   request-faith false e Unknown = ((2010, words-told out (Refused 2010) (room out e)), refl)
   request-faith false e (Known x) = known x (ltb 3 flags) (room out e)
 
-take-faith : (l : Lent) (file n : ℕ) (out : List ℕ) (b : Bool) → ltb (length out) 5 ≡ b
-    → Faith (pick b asksNothing (asks (take file n))) (numbersTold (pick b 1 0) (pick b out (withAnswer out (answerOf l (take file n))))) (pick b l (afterOf l (take file n))) l
-take-faith l file n out true e = ((0, refl), refl)
-take-faith l file n out false e = (words-told out (answerOf l (take file n)) (room out e), refl)
+-- a take of either kind
+take-faith : (l : Lent) (o : Op) (out : List ℕ) (b : Bool) → ltb (length out) 5 ≡ b
+    → Faith (pick b asksNothing (asks o)) (numbersTold (pick b 1 0) (pick b out (withAnswer out (answerOf l o)))) (pick b l (afterOf l o)) l
+take-faith l o out true e = ((0, refl), refl)
+take-faith l o out false e = (words-told out (answerOf l o) (room out e), refl)
 
 pub functions-faithful : Faithful functions
 unfolding status fitting requestFace afterFace
 functions-faithful l (requested mode root device process flags access address len value out) g =
     request-faith l mode root device process flags access address len value out _ refl (chosenOf access)
-functions-faithful l (taken file n out) g = take-faith l file n out _ refl
+functions-faithful l (taken file n out) g = take-faith l (take file n) out _ refl
+functions-faithful l (takenMany file d mask out) g = take-faith l (takeMany file d mask) out _ refl
 
 functions-granted : (l : Lent) (cs : List CCall) → AllGranted functions l cs
 unfolding AllGranted

@@ -8,12 +8,12 @@ use Rattle.memory.specs.Choice.{pick}
 use Rattle.causes.specs.declared.Access.{Access}
 use Rattle.iommu_files.specs.declared.Numbers.{Numbers}
 use Rattle.iommu_files.specs.Answers.{numbers}
-use Rattle.iommu.specs.Operations.{Op, request, take}
+use Rattle.iommu.specs.Operations.{Op, request, take, takeMany}
 use Rattle.ledger.specs.Machine.{Asked, asks, asksNothing, Machine}
 use Rattle.capi_iommu.specs.declared.Chosen.{Chosen}
 use Rattle.capi_iommu.specs.declared.Chosen.the-variants.{Known, Unknown}
 use Rattle.capi_iommu.specs.Face.{chosenOf, asked}
-use Rattle.capi_iommu.specs.Calls.{CCall, requested, taken, statusOf, wordsOf, leftOf}
+use Rattle.capi_iommu.specs.Calls.{CCall, requested, taken, takenMany, statusOf, wordsOf, leftOf}
 
 -- an access that is none, or an unknown flag, asks nothing: it is refused with 2010
 abbrev pub chosenAsked : Bool → Chosen → (Access → Op) → Asked
@@ -26,6 +26,7 @@ askedOf (requested mode root device process flags access address len value out) 
     pick (ltb (length out) 5) asksNothing
     (chosenAsked (ltb 3 flags) (chosenOf access) (λ x. request mode root (asked device process flags address len x) value))
 askedOf (taken file n out) = pick (ltb (length out) 5) asksNothing (asks (take file n))
+askedOf (takenMany file d mask out) = pick (ltb (length out) 5) asksNothing (asks (takeMany file d mask))
 
 -- 01's numbers, as the caller reads them: the buffer's first four words where the status is 0. A status 1 tells nothing, and stands here as a refusal without a number
 abbrev pub numbersTold : ℕ → List ℕ → Numbers

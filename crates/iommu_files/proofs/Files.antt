@@ -114,7 +114,7 @@ module _ (starts : Starts) (xs ys : List ℕ) (file n : ℕ) where
           → Answered (Taken (w / 2 ^ (n % 64))) (takeOf starts xs ys file n)
       go zero z k =
           let v : w ≡ pendingAt starts xs ys file n * 2 ^ (n % 64) =
-              taken-same _ _ k ∙ ap (λ (b : ℕ). answeredAt starts xs ys file (n / 64) b) mask-is ∙ one-answered in
+          taken-same _ _ k ∙ ap (λ (b : ℕ). answeredAt starts xs ys file (n / 64) b) mask-is ∙ one-answered in
           answered _ _ (take-made starts xs ys file n 0 z refl _ (ap (λ (x : ℕ). x / 2 ^ (n % 64)) v ∙ shl-shr (pendingAt starts xs ys file n) (n % 64)))
       go (suc r) z k = absurd (taken-refused _ _ k)
 

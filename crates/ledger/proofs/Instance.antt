@@ -1,11 +1,12 @@
--- The ledger of a small list of calls, computed: two stores of one identity merge, a take, and calls that change nothing. Assumes nothing.
+-- The ledger of a small list of calls, computed: two stores of one identity merge, takes of one and of many, and calls that change nothing. Assumes nothing.
 use Prim.Native.Nat.{ℕ, _+_, _-_, _/_, _%_, _^_}
-use mathlib.Core.Path.{_≡_, refl}
-use mathlib.Core.Bool.{false}
+use mathlib.Core.Path.{_≡_, refl, ap}
+use mathlib.Core.Bool.{true, false}
 use mathlib.Core.List.{List, [], _∷_, _++_}
 use native.Mathlib.Omega.{arith}
 use lib.Count.{onesIn, ones}
 use lib.ListN.{length, replicate}
+use Rattle.memory.specs.Code.{eight}
 use Rattle.memory.specs.Window.{Lent, windowAt, memory}
 use Rattle.causes.specs.declared.Access.the-variants.{Write}
 use Rattle.directory_process.specs.declared.ProcessId.the-variants.{Absent}
@@ -22,28 +23,23 @@ use Rattle.directory_context.specs.Process.{processMisconfigured}
 use Rattle.directory_process.specs.Process.{processContextAt, processContextOf, processTable, firstTableOf}
 use Rattle.message_recognition.specs.Recognition.{recognised, packed, extract}
 use Rattle.message.specs.Table.{translateReserved, recordReserved, onNotice, onTranslate, onMessageEntry, messageOf}
+use Rattle.word.specs.Word.{contains, wordOf}
 use Rattle.interrupt_file.specs.Bit.{bitAt, withBit, withoutBit}
-use Rattle.interrupt_file.specs.File.{isFile, pendingOf, afterStore, afterTake}
+use Rattle.interrupt_file.specs.File.{isFile, pendingOf, afterStore, afterTake, takenOf, takenTo}
 use Rattle.iommu_files.specs.declared.Numbers.{Numbers}
 use Rattle.iommu_files.specs.Answers.{numbers}
-use Rattle.iommu_refusals.specs.Refusals.{badWindow, overlap, requestRefusal, takeRefusal}
+use Rattle.iommu_refusals.specs.Refusals.{badWindow, overlap, requestRefusal, takeRefusal, takeManyRefusal}
 use Rattle.iommu_translation.specs.Translate.{untranslated, isMessage, guestOf, stagesOf, directoryOf, translateOf}
 use Rattle.iommu.specs.Request.{storableAs, finish, requestOf, afterRequest}
-use Rattle.iommu_files.specs.Files.{takeOf, afterTakeOf}
-use Rattle.iommu.specs.Operations.{Op, request, take}
+use Rattle.iommu_files.specs.Files.{takeOf, afterTakeOf, takeManyOf, afterTakeManyOf}
+use Rattle.iommu.specs.Operations.{Op, request, take, takeMany}
 use Rattle.ledger.specs.Places.{firstWindow, secondWindow, Place, place}
 use Rattle.ledger.specs.Machine.{Call, routines, leftBy, history}
 use Rattle.ledger.specs.Ledger.{Account, pendingIn, enteredAll, accountOf}
 use Rattle.ledger.specs.Closes.{Closes, Adds, accountAfter, pendingAfter, answerAt}
 use Rattle.ledger.proofs.Closing.{closes}
-use Rattle.ledger.proofs.Corollaries.{nothing-lost}
+use Rattle.ledger.proofs.Corollaries.{nothing-lost, answered-exactly}
 use Rattle.ledger.proofs.Whole.{counted-all}
-
--- the eight bytes of a doubleword, lowest first
-unfoldable eight : ℕ → List ℕ
-eight v =
-    v % 256 ∷ v / 2 ^ 8 % 256 ∷ v / 2 ^ 16 % 256 ∷ v / 2 ^ 24 % 256 ∷ v / 2 ^ 32 % 256 ∷ v / 2 ^ 40 % 256
-    ∷ v / 2 ^ 48 % 256 ∷ v / 2 ^ 56 % 256 ∷ []
 
 unfoldable words : List ℕ → List ℕ
 unfolding eight
@@ -75,17 +71,25 @@ pub early : List Op
 unfolding write writeTo
 early = write 2 0x40000 37 ∷ write 2 0x40000 37 ∷ write 2 0x40000 2048 ∷ []
 
--- after a take: one that finds nothing; two calls that are refused; a store; two to a file of the second window, and a take there; a request under the other root, which has no device; a take of the context's V, so that the first directory then faults too
+-- after a take: one that finds nothing; two calls that are refused; a store; four to a file of the second window, and a take there; a request under the other root, which has no device; a take of the context's V, so that the first directory then faults too
 pub later : List Op
 unfolding write writeTo
 later =
     take 0x40000200 37 ∷ take 0x40000201 37 ∷ write 5 0x40000 37 ∷ write 2 0x40000 0
-    ∷ writeTo 0x80005000 2 0x40000 37 ∷ writeTo 0x80005000 2 0x40000 38 ∷ take 0x40001200 37
+    ∷ writeTo 0x80005000 2 0x40000 37 ∷ writeTo 0x80005000 2 0x40000 38 ∷ writeTo 0x80005000 2 0x40000 64 ∷ writeTo 0x80005000 2 0x40000 70 ∷ take 0x40001200 37
     ∷ write 2 0x40001 37 ∷ take 0x40000000 0 ∷ write 2 0x40000 37 ∷ []
 
-pub ops : List Op
+-- of many: 64 and 70 are taken before these; with a mask of all ones none is left there; 38 isn't in the mask; a doubleword number that is refused; what was stored as 0 in the first window, with the mask that has also 37, which isn't pending
+pub last : List Op
+last = takeMany 0x40001200 1 0xffffffffffffffff ∷ takeMany 0x40001200 0 0x2000000000 ∷ takeMany 0x40001200 32 1 ∷ takeMany 0x40000200 0 0x2000000001 ∷ []
+
+pub middle : List Op
 unfolding early later
-ops = early ++ (take 0x40000200 37 ∷ later)
+middle = early ++ (take 0x40000200 37 ∷ later)
+
+pub ops : List Op
+unfolding middle last
+ops = middle ++ (takeMany 0x40001200 1 0x41 ∷ last)
 
 abbrev answers : List (Call Op) → List Numbers
 answers [] = []
@@ -101,21 +105,28 @@ near = place firstWindow 0x40000200
 abbrev pub far : Place
 far = place secondWindow 0x40001200
 
--- each call's answer, the accounts of five identities in both windows, and one before the first take
+-- each call's answer, the accounts of seven identities in both windows, and one before the first take
 pub computed :
     (answers (history routines memories ops)
     ≡ numbers 2 0x40000200 0x28000000 1029 ∷ numbers 2 0x40000200 0x28000000 1029 ∷ numbers 3 0 0 0 ∷ numbers 6 1 0 0 ∷ numbers 6 0 0 0
     ∷ numbers 5 2008 0 0 ∷ numbers 5 2002 0 0 ∷ numbers 2 0x40000200 0x28000000 1029
-    ∷ numbers 2 0x40001200 0x28000000 1030 ∷ numbers 2 0x40001200 0x28000000 1030 ∷ numbers 6 1 0 0
-    ∷ numbers 4 258 0 0 ∷ numbers 6 1 0 0 ∷ numbers 4 258 0 0 ∷ [])
+    ∷ numbers 2 0x40001200 0x28000000 1030 ∷ numbers 2 0x40001200 0x28000000 1030 ∷ numbers 2 0x40001200 0x28000000 1030 ∷ numbers 2 0x40001200 0x28000000 1030
+    ∷ numbers 6 1 0 0 ∷ numbers 4 258 0 0 ∷ numbers 6 1 0 0 ∷ numbers 4 258 0 0
+    ∷ numbers 6 0x41 0 0 ∷ numbers 6 0 0 0 ∷ numbers 6 0 0 0 ∷ numbers 5 2009 0 0 ∷ numbers 6 1 0 0 ∷ [])
     × (accountAfter routines memories ops near 37 ≡ account 0 2 1 1)
-    × (accountAfter routines memories ops near 0 ≡ account 1 1 0 0)
+    × (accountAfter routines memories ops near 0 ≡ account 0 1 0 1)
     × (accountAfter routines memories ops (place firstWindow 0x40000000) 0 ≡ account 0 0 0 1)
     × (accountAfter routines memories early near 37 ≡ account 1 2 1 0)
     × (accountAfter routines memories ops far 37 ≡ account 0 1 0 1)
     × (accountAfter routines memories ops far 38 ≡ account 1 1 0 0)
-unfolding onesIn ones memory legalOf indexOf entryOf allows mappedBy onLoad levelStep levels walkOf secondStageOf firstStageOf pointerOf leafPlace tooWide deviceMisconfigured deviceContextAt deviceContextOf processMisconfigured processContextAt processContextOf processTable firstTableOf recognised packed extract translateReserved recordReserved onNotice onTranslate onMessageEntry messageOf bitAt withBit withoutBit isFile pendingOf afterStore afterTake badWindow overlap requestRefusal takeRefusal untranslated isMessage guestOf stagesOf directoryOf translateOf storableAs finish requestOf afterRequest takeOf afterTakeOf history leftBy enteredAll accountOf memories writeTo write early later ops
-computed = (refl, refl, refl, refl, refl, refl, refl)
+    × (accountAfter routines memories ops far 64 ≡ account 0 1 0 1)
+    × (accountAfter routines memories ops far 70 ≡ account 0 1 0 1)
+unfolding onesIn ones memory legalOf indexOf entryOf allows mappedBy onLoad levelStep levels walkOf secondStageOf firstStageOf pointerOf leafPlace tooWide deviceMisconfigured deviceContextAt deviceContextOf processMisconfigured processContextAt processContextOf processTable firstTableOf recognised packed extract translateReserved recordReserved onNotice onTranslate onMessageEntry messageOf bitAt withBit withoutBit isFile pendingOf afterStore afterTake badWindow overlap requestRefusal takeRefusal untranslated isMessage guestOf stagesOf directoryOf translateOf storableAs finish requestOf afterRequest takeOf afterTakeOf takeManyRefusal takeManyOf afterTakeManyOf takenOf takenTo contains wordOf history leftBy enteredAll accountOf memories writeTo write early later middle last ops
+computed = (refl, refl, refl, refl, refl, refl, refl, refl, refl)
+
+waits-64 : accountAfter routines memories middle far 64 ≡ account 1 1 0 0
+unfolding onesIn ones memory legalOf indexOf entryOf allows mappedBy onLoad levelStep levels walkOf secondStageOf firstStageOf pointerOf leafPlace tooWide deviceMisconfigured deviceContextAt deviceContextOf processMisconfigured processContextAt processContextOf processTable firstTableOf recognised packed extract translateReserved recordReserved onNotice onTranslate onMessageEntry messageOf bitAt withBit withoutBit isFile pendingOf afterStore afterTake badWindow overlap requestRefusal takeRefusal untranslated isMessage guestOf stagesOf directoryOf translateOf storableAs finish requestOf afterRequest takeOf afterTakeOf history leftBy enteredAll accountOf memories writeTo write early later middle
+waits-64 = refl
 
 -- the theorem of this list, with each kind of premise met
 pub instance : Closes routines memories ops
@@ -134,8 +145,15 @@ unfolding isFile memories
 added = instance .sums (near ∷ far ∷ []) (refl, (refl, tt)) (counted-all memories ops (near ∷ far ∷ []) (refl, (refl, tt)))
 
 pub told : answerAt routines memories early (take 0x40000200 37) ≡ numbers 6 1 0 0
-unfolding ops takeRefusal badWindow overlap isFile memories
-told = rw (computed .4) at (instance .taken early (take 0x40000200 37) near 37 (later, refl) refl refl (record { within = refl; counts = tt }) .0)
+unfolding ops middle last takeRefusal badWindow overlap isFile memories
+told = rw (computed .4) at (instance .taken early (take 0x40000200 37) near 37 (later ++ (takeMany 0x40001200 1 0x41 ∷ last), refl) refl refl (record { within = refl; counts = tt }) .0)
+
+-- a bit in the mask whose interrupt waits is answered
+pub answers-64 : contains (answerAt routines memories middle (takeMany 0x40001200 1 0x41) .first) 0 ≡ true
+unfolding ops last takeManyRefusal badWindow overlap isFile memories contains
+answers-64 =
+    answered-exactly routines memories ops instance middle (takeMany 0x40001200 1 0x41) far 1 0x41 (last, refl) refl refl (record { within = refl; counts = tt }) 0 (omega arith) .1
+    (refl, ap (λ (a : Account). a .mark) waits-64)
 
 pub kept : pendingAfter routines memories early near 37 ≡ 1
 unfolding early isFile memories
