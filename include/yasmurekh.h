@@ -50,10 +50,10 @@ extern "C" {
 #define YASMUREKH_SHORT_BUFFER 1u /* `out` or `state` is too short; nothing changed */
 
 /* Words of `out`. */
-#define YASMUREKH_ANSWER_WORDS 5u  /* request, take: kind, three values, stage */
+#define YASMUREKH_ANSWER_WORDS 5u  /* request, both takes: kind, three values, stage */
 #define YASMUREKH_REPORT_WORDS 66u /* report: refusal, count, 32 pairs */
 
-/* Places in the `out` of a request and of a take. */
+/* Places in the `out` of a request and of both takes. */
 #define YASMUREKH_OUT_KIND 0u
 #define YASMUREKH_OUT_FIRST 1u
 #define YASMUREKH_OUT_SECOND 2u
@@ -73,7 +73,7 @@ extern "C" {
 #define YASMUREKH_DISCARDED 3u
 #define YASMUREKH_FAULT 4u   /* cause; the stage in YASMUREKH_OUT_STAGE */
 #define YASMUREKH_REFUSED 5u /* refusal */
-#define YASMUREKH_TAKEN 6u   /* 1 if the interrupt was pending, else 0 */
+#define YASMUREKH_TAKEN 6u   /* take: 1 if the interrupt was pending, else 0; mask take: the bits taken */
 
 /* Refusals, in the order in which they are looked for; 2010 comes first. */
 #define YASMUREKH_REFUSAL_WINDOW 2001u       /* a window's start or length not whole pages, or its end above 2^56 */
@@ -84,8 +84,9 @@ extern "C" {
 #define YASMUREKH_REFUSAL_SUPERVISOR 2005u   /* supervisor without a process_id */
 #define YASMUREKH_REFUSAL_LENGTH 2006u       /* length 0, or past the end of the page */
 #define YASMUREKH_REFUSAL_FILE_OUTSIDE 2007u /* request: a storable message, its file in neither window */
-#define YASMUREKH_REFUSAL_FILE 2008u         /* take, report: no file of either window */
+#define YASMUREKH_REFUSAL_FILE 2008u         /* both takes, report: no file of either window */
 #define YASMUREKH_REFUSAL_IDENTITY 2009u     /* take: identity above 2047 */
+#define YASMUREKH_REFUSAL_DOUBLEWORD 2009u   /* mask take: doubleword number above 31 */
 #define YASMUREKH_REFUSAL_NUMBER 2010u       /* request: unknown access or flag */
 #define YASMUREKH_REFUSAL_SOURCE 2014u       /* wire: source outside 1 to 63; the status of the call */
 #define YASMUREKH_REFUSAL_HART 2014u         /* claim, signal: hart above 15; the status of the call */
@@ -189,6 +190,26 @@ uint64_t yasmurekh_take(uint64_t first_start, uint8_t *first, size_t first_len,
                         size_t out_len);
 
 /*
+ * The mask take: takes many interrupts of the file at physical address `file` at once.
+ * `doubleword`, 0 to 31, names 64 of them: identity n is bit n mod 64 of doubleword
+ * n div 64. The first value of the answer has the bits of `mask` whose interrupts were
+ * pending, and those are pending no more: as a take of each of them does it. A mask
+ * of 0 takes nothing.
+ *
+ * Lent: both windows and `out`. Changed: the first five words of `out`, and, where
+ * the answer is YASMUREKH_TAKEN, each byte of the one window that holds an answered
+ * bit, by these bits alone. Never changed: enable bits, pending bits that are not in
+ * the mask, any other byte of the windows, either window under any other answer, and
+ * the words of `out` after the fifth. Refusals: 2001, 2011, 2008, 2009.
+ *
+ * Returns as yasmurekh_request does.
+ */
+uint64_t yasmurekh_take_many(uint64_t first_start, uint8_t *first, size_t first_len,
+                             uint64_t second_start, uint8_t *second, size_t second_len,
+                             uint64_t file, uint64_t doubleword, uint64_t mask,
+                             uint64_t *out, size_t out_len);
+
+/*
  * Reports the file at physical address `file`, in whichever window it lies: refusal
  * (0 where there is none), the number of pending interrupts, identity 0 included,
  * then 32 pairs of doublewords, pending and enable; identity n is bit n mod 64 of
@@ -205,7 +226,7 @@ uint64_t yasmurekh_report(uint64_t first_start, const uint8_t *first, size_t fir
                           uint64_t file, uint64_t *out, size_t out_len);
 
 /*
- * The same three calls with a name for each number. They give the room for the answer
+ * The same four calls with a name for each number. They give the room for the answer
  * themselves, so that no call ends in YASMUREKH_SHORT_BUFFER; a status that isn't
  * YASMUREKH_OK, which the archive of this header never gives them, comes back as a
  * refusal by that status, and so do words that it left unwritten.
@@ -241,7 +262,7 @@ struct yasmurekh_device_request {
     uint32_t value;
 };
 
-/* The answer of a request and of a take: its kind, three values, the stage of a fault. */
+/* The answer of a request and of both takes: its kind, three values, the stage of a fault. */
 struct yasmurekh_answer {
     uint64_t kind;
     uint64_t first;
@@ -304,6 +325,20 @@ yasmurekh_memory_take(const struct yasmurekh_memory *memory, uint64_t file, uint
         memory->first.start, memory->first.bytes, memory->first.length,
         memory->second.start, memory->second.bytes, memory->second.length,
         file, identity, out, YASMUREKH_ANSWER_WORDS);
+
+    return yasmurekh_answer_of(status, out);
+}
+
+/* As yasmurekh_take_many: takes the interrupts of a doubleword that are in a mask. */
+static inline struct yasmurekh_answer
+yasmurekh_memory_take_many(const struct yasmurekh_memory *memory, uint64_t file,
+                           uint64_t doubleword, uint64_t mask)
+{
+    uint64_t out[YASMUREKH_ANSWER_WORDS] = {YASMUREKH_REFUSED, YASMUREKH_SHORT_BUFFER, 0, 0, 0};
+    uint64_t status = yasmurekh_take_many(
+        memory->first.start, memory->first.bytes, memory->first.length,
+        memory->second.start, memory->second.bytes, memory->second.length,
+        file, doubleword, mask, out, YASMUREKH_ANSWER_WORDS);
 
     return yasmurekh_answer_of(status, out);
 }

@@ -29,7 +29,8 @@ pub struct Settings {
 pub const PROCESS_GIVEN: u8 = 1;
 pub const SUPERVISOR: u8 = 2;
 
-/// A request; or a take, which uses the address as its file and the value as its identity.
+/// A request; or a take, which uses the address as its file and the value as its identity; or a mask take,
+/// whose file is the address, its doubleword the value, and its mask device and process.
 #[derive(Clone, Copy, Debug)]
 pub struct Call {
     pub address: u64,
@@ -52,6 +53,20 @@ impl Call {
             access: Access::Read,
             flags: 0,
         }
+    }
+
+    pub fn mask_take(file: u64, doubleword: u32, mask: u64) -> Call {
+        Call {
+            process: mask as u32,
+            value: doubleword,
+            ..Call::read((mask >> 32) as u32, file)
+        }
+    }
+
+    /// The mask of a mask take.
+    #[inline]
+    pub fn mask(&self) -> u64 {
+        u64::from(self.device) << 32 | u64::from(self.process)
     }
 
     pub fn write(device: u32, address: u64, value: u32) -> Call {

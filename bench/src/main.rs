@@ -105,6 +105,8 @@ fn measure_all(effort: &Effort) -> Result<(), String> {
     together(&[rows::window_rows()], effort)?;
     println!("\nDirectories of one, two and three levels (both stages, 4 KiB / 4 KiB):\n");
     together(&[rows::depth_rows()], effort)?;
+    println!("\nA doubleword of 64 pending bits, all taken:\n");
+    together(&[rows::doubleword_rows()], effort)?;
     println!("\nTables and files in either window:\n");
     together(&rows::place_rows(), effort)?;
     println!(
@@ -183,6 +185,7 @@ fn measure_before(effort: &Effort, text: &str) -> Result<(), String> {
     }
     println!("\nRatios of rates, medians of {} rounds.", effort.rounds);
     println!("Not served: the earlier library takes the row's contexts for misconfigured.");
+    println!("No mask take: the earlier library has none.");
     Ok(())
 }
 
@@ -211,10 +214,12 @@ fn named_rows() -> impl Iterator<Item = Row> {
     let placed = placed.flat_map(|group| group.into_iter().skip(1));
     let sized = iter::once_with(rows::window_rows).flatten();
     let deep = iter::once_with(rows::depth_rows).flatten();
+    let doublewords = iter::once_with(rows::doubleword_rows).flatten();
     rows::main_rows()
         .into_iter()
         .chain(sized)
         .chain(deep)
+        .chain(doublewords)
         .chain(placed)
 }
 

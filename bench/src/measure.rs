@@ -27,7 +27,47 @@ fn once<P: Program>(kind: Kind, memory: &mut Memory, settings: &Settings, call: 
     match kind {
         Kind::Requests => P::request(memory, settings, call),
         Kind::Takes => P::take(memory, call.address, u64::from(call.value)),
+        Kind::MaskTakes { fresh } => at_once::<P>(memory, call, fresh),
+        Kind::SingleTakes { fresh } => singly::<P>(memory, call, fresh),
     }
+}
+
+/// Makes bits of a call's doubleword pending, as messages before the call would: in one way for all
+/// sides, by the whole doubleword, so that no side's load waits for a narrower store.
+#[inline(always)]
+fn refill(memory: &mut Memory, call: &Call, fresh: u64) {
+    let Memory { first, second } = memory;
+    let in_first = call.address.wrapping_sub(first.start) < first.bytes.len() as u64;
+    let window = if in_first { first } else { second };
+    let place = (call.address - window.start) as usize + 16 * call.value as usize;
+    let word = window.bytes[place..].first_chunk_mut();
+    let word = word.expect("a file of a window");
+    *word = (u64::from_le_bytes(*word) | fresh).to_le_bytes();
+}
+
+/// A mask take, after the bits came in.
+#[inline(always)]
+fn at_once<P: Program>(memory: &mut Memory, call: &Call, fresh: u64) -> Numbers {
+    refill(memory, call, fresh);
+    P::take_many(memory, call.address, u64::from(call.value), call.mask())
+}
+
+/// The same by a take for each bit of the mask.
+#[inline(always)]
+fn singly<P: Program>(memory: &mut Memory, call: &Call, fresh: u64) -> Numbers {
+    refill(memory, call, fresh);
+    let first = 64 * u64::from(call.value);
+    let (mut taken, mut rest) = (0, call.mask());
+    while rest != 0 {
+        let bit = rest.trailing_zeros();
+        let answer = P::take(memory, call.address, first + u64::from(bit));
+        if answer[0] != 6 {
+            return answer;
+        }
+        taken |= answer[1] << bit;
+        rest &= rest - 1;
+    }
+    [6, taken, 0, 0, 0]
 }
 
 /// All numbers of an answer count, so that none is left uncomputed.
@@ -51,7 +91,25 @@ fn run<P: Program>(row: &Row, memory: &mut Memory) -> u64 {
         Kind::Takes => calls.fold(0, |sum, call| {
             summed(sum, once::<P>(Kind::Takes, memory, &settings, call))
         }),
+        Kind::MaskTakes { fresh } => run_at_once::<P>(&row.calls, memory, fresh),
+        Kind::SingleTakes { fresh } => run_singly::<P>(&row.calls, memory, fresh),
     }
+}
+
+/// Mask takes; a function of its own, so that the other loops keep their registers.
+#[inline(never)]
+fn run_at_once<P: Program>(calls: &[Call], memory: &mut Memory, fresh: u64) -> u64 {
+    calls.iter().fold(0, |sum, call| {
+        summed(sum, at_once::<P>(memory, call, fresh))
+    })
+}
+
+/// Single takes for the bits of a mask.
+#[inline(never)]
+fn run_singly<P: Program>(calls: &[Call], memory: &mut Memory, fresh: u64) -> u64 {
+    calls
+        .iter()
+        .fold(0, |sum, call| summed(sum, singly::<P>(memory, call, fresh)))
 }
 
 /// Each call on two sides, with the same answer, of the row's kind, and the same bytes after them.
@@ -82,13 +140,16 @@ fn compare_two(row: &Row, ours: Side, theirs: Side) -> Result<(), String> {
     Ok(())
 }
 
-/// Why an earlier library can't run a row, if it can't: it has one window and the row two; or it takes
-/// the row's contexts for misconfigured (259), since a mode or a mask came after it. No row asks for
-/// that fault.
+/// Why an earlier library can't run a row, if it can't: it has one window and the row two; or it has no
+/// mask take; or it takes the row's contexts for misconfigured (259), since a mode or a mask came after
+/// it. No row asks for that fault.
 pub fn unknown(row: &Row, side: Side) -> Option<&'static str> {
     let mut memory = row.world.memory();
     if cfg!(before_windows = "one") && !memory.second.bytes.is_empty() {
         return Some("one window only");
+    }
+    if !cfg!(before_mask_take) && matches!(row.kind, Kind::MaskTakes { .. }) {
+        return Some("no mask take");
     }
     let first = (side.once)(row.kind, &mut memory, &row.world.settings, &row.calls[0]);
     (first[..2] == [4, 259]).then_some("not served: fault 259")

@@ -434,6 +434,31 @@ pub fn take(memory: &mut Memory, file: u64, identity: u64) -> Answer {
     Answer::Taken(pending)
 }
 
+/// Takes the interrupts of a doubleword that are in a mask, by one load and one store; gives their bits,
+/// or the refusal.
+#[inline(never)]
+pub fn take_many(memory: &mut Memory, file: u64, doubleword: u64, mask: u64) -> Result<u64, u64> {
+    if let Some(number) = windows_refusal(memory) {
+        return Err(number);
+    }
+    if !file.is_multiple_of(512) {
+        return Err(2008);
+    }
+    let Some(bytes) = bytes_from(memory, file) else {
+        return Err(2008);
+    };
+    if doubleword > 31 {
+        return Err(2009);
+    }
+    let bytes = bytes.get_mut(16 * doubleword as usize..);
+    let Some(word) = bytes.and_then(|bytes| bytes.first_chunk_mut()) else {
+        return Err(2008);
+    };
+    let pending = u64::from_le_bytes(*word);
+    *word = (pending & !mask).to_le_bytes();
+    Ok(pending & mask)
+}
+
 /// The bytes of the window that holds a file, from the file on. Files lie on 512 bytes and windows are
 /// whole pages: a file lies inside whole or not at all.
 #[inline(always)]

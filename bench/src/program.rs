@@ -7,6 +7,7 @@ use crate::proved::{now, Raw};
 pub trait Program {
     fn request(memory: &mut Memory, settings: &Settings, call: &Call) -> Numbers;
     fn take(memory: &mut Memory, file: u64, identity: u64) -> Numbers;
+    fn take_many(memory: &mut Memory, file: u64, doubleword: u64, mask: u64) -> Numbers;
 }
 
 /// The proved library of this tree.
@@ -41,6 +42,11 @@ impl Program for Proved {
     fn take(memory: &mut Memory, file: u64, identity: u64) -> Numbers {
         now::take(memory, file, identity)
     }
+
+    #[inline]
+    fn take_many(memory: &mut Memory, file: u64, doubleword: u64, mask: u64) -> Numbers {
+        now::take_many(memory, file, doubleword, mask)
+    }
 }
 
 #[cfg(before)]
@@ -53,6 +59,17 @@ impl Program for Before {
     #[inline]
     fn take(memory: &mut Memory, file: u64, identity: u64) -> Numbers {
         crate::proved::before::take(memory, file, identity)
+    }
+
+    #[cfg(before_mask_take)]
+    #[inline]
+    fn take_many(memory: &mut Memory, file: u64, doubleword: u64, mask: u64) -> Numbers {
+        crate::proved::before::take_many(memory, file, doubleword, mask)
+    }
+
+    #[cfg(not(before_mask_take))]
+    fn take_many(_: &mut Memory, _: u64, _: u64, _: u64) -> Numbers {
+        unreachable!("measure::unknown leaves these rows out")
     }
 }
 
@@ -74,5 +91,13 @@ impl Program for Plain {
     #[inline]
     fn take(memory: &mut Memory, file: u64, identity: u64) -> Numbers {
         plain::take(memory, file, identity).numbers()
+    }
+
+    #[inline]
+    fn take_many(memory: &mut Memory, file: u64, doubleword: u64, mask: u64) -> Numbers {
+        match plain::take_many(memory, file, doubleword, mask) {
+            Ok(bits) => [6, bits, 0, 0, 0],
+            Err(number) => [5, number, 0, 0, 0],
+        }
     }
 }

@@ -12,9 +12,9 @@ pub struct Raw {
     pub value: u32,
 }
 
-/// The functions of an archive over two windows, by their names in it.
+/// The functions of an archive over two windows, by their names in it; the mask take where it has one.
 macro_rules! two_windows {
-    ($module:ident, $request:literal, $take:literal) => {
+    ($module:ident, $request:literal, $take:literal $(, $take_many:literal)?) => {
         pub mod $module {
             use super::Raw;
             use crate::call::{Memory, Numbers, Settings};
@@ -106,6 +106,53 @@ macro_rules! two_windows {
                 }
                 out
             }
+
+            $(
+                #[inline]
+                pub fn take_many(
+                    memory: &mut Memory,
+                    file: u64,
+                    doubleword: u64,
+                    mask: u64,
+                ) -> Numbers {
+                    extern "C" {
+                        #[link_name = $take_many]
+                        fn archive_take_many(
+                            first_start: u64,
+                            first: *mut u8,
+                            first_len: usize,
+                            second_start: u64,
+                            second: *mut u8,
+                            second_len: usize,
+                            file: u64,
+                            doubleword: u64,
+                            mask: u64,
+                            out: *mut u64,
+                            out_len: usize,
+                        ) -> u64;
+                    }
+
+                    let Memory { first, second } = memory;
+                    let mut out = [0; 5];
+                    // Sound: as above.
+                    unsafe {
+                        archive_take_many(
+                            first.start,
+                            first.bytes.as_mut_ptr(),
+                            first.bytes.len(),
+                            second.start,
+                            second.bytes.as_mut_ptr(),
+                            second.bytes.len(),
+                            file,
+                            doubleword,
+                            mask,
+                            out.as_mut_ptr(),
+                            out.len(),
+                        );
+                    }
+                    out
+                }
+            )?
         }
     };
 }
@@ -197,8 +244,20 @@ macro_rules! one_window {
     };
 }
 
-two_windows!(now, "yasmurekh_request", "yasmurekh_take");
-#[cfg(before_windows = "two")]
+two_windows!(
+    now,
+    "yasmurekh_request",
+    "yasmurekh_take",
+    "yasmurekh_take_many"
+);
+#[cfg(all(before_windows = "two", not(before_mask_take)))]
 two_windows!(before, "before_yasmurekh_request", "before_yasmurekh_take");
+#[cfg(before_mask_take)]
+two_windows!(
+    before,
+    "before_yasmurekh_request",
+    "before_yasmurekh_take",
+    "before_yasmurekh_take_many"
+);
 #[cfg(before_windows = "one")]
 one_window!(before, "before_yasmurekh_request", "before_yasmurekh_take");

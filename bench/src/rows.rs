@@ -10,6 +10,14 @@ use yasmurekh_reference::random::Random;
 pub enum Kind {
     Requests,
     Takes,
+    /// The benchmark makes these bits of the doubleword pending before each.
+    MaskTakes {
+        fresh: u64,
+    },
+    /// The same bits by a take for each; a call of the row is all of them.
+    SingleTakes {
+        fresh: u64,
+    },
 }
 
 pub struct Row {
@@ -231,13 +239,16 @@ fn faults() -> Vec<Row> {
     ]
 }
 
-fn takes(places: Places) -> Row {
-    let plan = Plan {
+fn takes_plan(places: Places) -> Plan {
+    Plan {
         places,
         mask: Some(FOUR_ONES),
         ..Plan::default()
-    };
-    let mut row = row("takes", plan, &[6]);
+    }
+}
+
+fn takes(places: Places) -> Row {
+    let mut row = row("takes", takes_plan(places), &[6]);
     row.kind = Kind::Takes;
     let mut random = random();
     for call in &mut row.calls {
@@ -245,6 +256,29 @@ fn takes(places: Places) -> Row {
         call.value = random.below(2_048) as u32;
     }
     row
+}
+
+/// Calls that take from doublewords of all files, with these masks.
+fn of_doublewords(name: &str, kind: Kind, places: Places, mask: fn(&mut Random) -> u64) -> Row {
+    let mut row = row(name, takes_plan(places), &[6]);
+    row.kind = kind;
+    let mut random = random();
+    for call in &mut row.calls {
+        let file = random.pick(&row.world.files);
+        let doubleword = random.below(32) as u32;
+        *call = Call::mask_take(file, doubleword, mask(&mut random));
+    }
+    row
+}
+
+/// Two bits come in before each mask take, whose mask has half of the bits, by chance: those that it
+/// leaves wait for the next of that doubleword.
+fn mask_takes(places: Places) -> Row {
+    let name = "mask takes, at most 2 bits pending";
+    let kind = Kind::MaskTakes {
+        fresh: 1 << 20 | 1 << 42,
+    };
+    of_doublewords(name, kind, places, Random::number)
 }
 
 /// Req 11: 80 percent translations under both stages, 20 percent stored.
@@ -366,6 +400,7 @@ pub fn main_rows() -> Vec<Row> {
     rows.extend([redirected(), refusals(), file_outside(first)]);
     rows.append(&mut faults());
     rows.push(takes(first));
+    rows.push(mask_takes(first));
     rows
 }
 
@@ -378,7 +413,7 @@ pub fn place_rows() -> Vec<Vec<Row>> {
         Places::FilesFirst,
         Places::RootFirst,
     ];
-    let made: [fn(Places) -> Row; 9] = [
+    let made: [fn(Places) -> Row; 10] = [
         mix,
         |places| both_stages(8, 0, 64, places),
         |places| both_stages(10, 0, 64, places),
@@ -388,6 +423,7 @@ pub fn place_rows() -> Vec<Vec<Row>> {
         stored,
         file_outside,
         takes,
+        mask_takes,
     ];
     made.map(|row| ALL.map(row).into()).into()
 }
@@ -407,6 +443,27 @@ pub fn window_rows() -> Vec<Row> {
             mebibytes => format!("window of {mebibytes} MiB"),
         };
         row(&name, plan, &[0])
+    });
+    made.into()
+}
+
+/// All 64 bits of a doubleword, by one mask take and by 64 single takes.
+pub fn doubleword_rows() -> Vec<Row> {
+    let fresh = u64::MAX;
+    let made = [
+        (
+            "one mask take of 64 pending bits",
+            Kind::MaskTakes { fresh },
+        ),
+        (
+            "64 single takes of 64 pending bits",
+            Kind::SingleTakes { fresh },
+        ),
+    ];
+    let made = made.map(|(name, kind)| {
+        let mut row = of_doublewords(name, kind, Places::First, |_| u64::MAX);
+        row.number = Some(u64::MAX);
+        row
     });
     made.into()
 }

@@ -1,7 +1,8 @@
 /*
  * A small use of Yasmurekh from C: tables on chip and interrupt files in main memory, a
- * window each; a translation under both stages, a message, its take, refusals and faults;
- * a fan that signals by wire; and the same fan at a controller without message files.
+ * window each; a translation under both stages, a message, its take, a take of many at
+ * once, refusals and faults; a fan that signals by wire; and the same fan at a controller
+ * without message files.
  */
 #include <inttypes.h>
 #include <stdio.h>
@@ -172,6 +173,34 @@ static void report(const char *what, uint64_t file)
         if (report.pairs[n / 64].pending >> n % 64 & 1)
             printf(", identity %u", n);
     printf("\n");
+}
+
+/* Takes what a mask names of a doubleword, and prints which of these bits were pending. */
+static void take_many(const char *what, uint64_t doubleword, uint64_t mask)
+{
+    struct yasmurekh_answer answer = yasmurekh_memory_take_many(&memory, FILE_1, doubleword, mask);
+
+    if (answer.kind == YASMUREKH_TAKEN)
+        printf("%s: take made, bits 0x%" PRIx64 "\n", what, answer.first);
+    else
+        show(what, answer);
+}
+
+/* Four messages, taken by one call for each doubleword. */
+static void many(void)
+{
+    request("write of 1 to file 2", DEVICE, YASMUREKH_WRITE, 0x2000, 4, 1);
+    request("write of 37 to file 2", DEVICE, YASMUREKH_WRITE, 0x2000, 4, 37);
+    request("write of 63 to file 2", DEVICE, YASMUREKH_WRITE, 0x2000, 4, 63);
+    request("write of 64 to file 2", DEVICE, YASMUREKH_WRITE, 0x2000, 4, 64);
+    report("report of the file", FILE_1);
+    take_many("mask take of 0 to 62", 0, UINT64_MAX >> 1);
+    report("report of the file", FILE_1);
+    take_many("mask take of 0 to 63", 0, UINT64_MAX);
+    take_many("mask take of 64 to 127", 1, UINT64_MAX);
+    take_many("mask take of 64 to 127 again", 1, UINT64_MAX);
+    report("report of the file", FILE_1);
+    take_many("mask take of 2048 to 2111", YASMUREKH_FILE_PAIRS, UINT64_MAX);
 }
 
 /* A write of 38 to file 2, a read of the buffer and a take, over other windows. */
@@ -390,6 +419,7 @@ int main(void)
     take("take of 37 again", FILE_1, 37);
     report("report of the file", FILE_1);
     report("report of no file", FILE_1 + 1);
+    many();
 
     memcpy(files_before, files, sizeof files);
     request("read across the page's end", DEVICE, YASMUREKH_READ, 0x1FFC, 8, 0);

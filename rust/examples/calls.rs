@@ -4,7 +4,7 @@
 use std::process::ExitCode;
 
 use yasmurekh::aplic::{register, Domain};
-use yasmurekh::{report, request, take, Memory, Mode, Request, Settings, Window};
+use yasmurekh::{report, request, take, take_many, Memory, Mode, Request, Settings, Window};
 
 fn main() -> ExitCode {
     let (mut tables, mut files) = ([0; 4096], [0; 4096]);
@@ -23,6 +23,7 @@ fn main() -> ExitCode {
             request(&mut memory, &off, &Request::read(0, 0x1000, 4)).to_string()
         }
         "take" => format!("{:?}", take(&mut memory, 0x1000, 37)),
+        "take_many" => format!("{:?}", take_many(&mut memory, 0x1000, 1, 0xFF)),
         "report" => format!("{:?}", report(&memory, 0x1000).map(|report| report.count)),
         "wire" => format!("{:?}", domain.wire(7, true)),
         "write" => format!("{:?}", domain.write(register::SETIENUM, 7)),
@@ -31,7 +32,9 @@ fn main() -> ExitCode {
         "claim" => format!("{:?}", domain.claim(0)),
         "signal" => format!("{:?}", domain.signalled(0)),
         _ => {
-            eprintln!("usage: calls request|take|report|wire|write|read|forward|claim|signal");
+            eprintln!(
+                "usage: calls request|take|take_many|report|wire|write|read|forward|claim|signal"
+            );
             return ExitCode::FAILURE;
         }
     };

@@ -74,7 +74,8 @@ impl fmt::Display for Answer {
     }
 }
 
-/// What the words that a call answers in hold before it. Only a pair of a report may be this after it.
+/// What the words that a call answers in hold before it. Only a pair of a report and the bits of a mask
+/// take may be this after it.
 pub(crate) const UNWRITTEN: u64 = u64::MAX;
 
 /// The status of a call that is never refused by it.
@@ -90,6 +91,16 @@ pub(crate) fn taken(words: [u64; 5]) -> Result<bool, Refusal> {
         [5, number, 0, 0, 0] => Err(Refusal::from_number(number)),
         [6, pending @ (0 | 1), 0, 0, 0] => Ok(pending == 1),
         [kind, ..] => another_version("answer of a take", kind),
+    }
+}
+
+/// A mask take's words: the bits of the mask that were pending, or the refusal.
+pub(crate) fn taken_many(words: [u64; 5], mask: u64) -> Result<u64, Refusal> {
+    match words {
+        [5, 2009, 0, 0, 0] => Err(Refusal::Doubleword),
+        [5, number, 0, 0, 0] => Err(Refusal::from_number(number)),
+        [6, bits, 0, 0, 0] if bits & !mask == 0 => Ok(bits),
+        [kind, ..] => another_version("answer of a mask take", kind),
     }
 }
 
@@ -276,10 +287,12 @@ pub enum Refusal {
     Length,
     /// 2007: the message would be stored, and its file is in neither window.
     FileOutside,
-    /// 2008: take or report: the file's address is no multiple of 512, or it is in neither window.
+    /// 2008: either take, or report: the file's address is no multiple of 512, or it is in neither window.
     File,
     /// 2009: take: the identity is above 2,047.
     Identity,
+    /// 2009 too: mask take: the doubleword number is above 31.
+    Doubleword,
     /// 2014: wire change of a domain: no source has that number, 1 to 63.
     Source,
     /// 2014 too: claim or signal of a domain: no hart has that number, 0 to 15.
@@ -288,7 +301,7 @@ pub enum Refusal {
 
 impl Refusal {
     /// All refusals, in the order of the variants.
-    pub const ALL: [Refusal; 12] = [
+    pub const ALL: [Refusal; 13] = [
         Refusal::Window,
         Refusal::Overlap,
         Refusal::Directory,
@@ -299,6 +312,7 @@ impl Refusal {
         Refusal::FileOutside,
         Refusal::File,
         Refusal::Identity,
+        Refusal::Doubleword,
         Refusal::Source,
         Refusal::Hart,
     ];
@@ -332,7 +346,7 @@ impl Refusal {
             Refusal::Length => 2006,
             Refusal::FileOutside => 2007,
             Refusal::File => 2008,
-            Refusal::Identity => 2009,
+            Refusal::Identity | Refusal::Doubleword => 2009,
             Refusal::Source | Refusal::Hart => 2014,
         }
     }
@@ -351,6 +365,7 @@ impl fmt::Display for Refusal {
             Refusal::FileOutside => "the message's file is in neither window",
             Refusal::File => "no interrupt file of either window is at that address",
             Refusal::Identity => "the identity is above 2,047",
+            Refusal::Doubleword => "the doubleword number is above 31",
             Refusal::Source => "no source of the domain has that number",
             Refusal::Hart => "no hart of the domain has that number",
         };
@@ -530,6 +545,41 @@ mod tests {
             [6, 1, 0, 0, UNWRITTEN],
         ] {
             refuses(move || taken(words));
+        }
+    }
+
+    #[test]
+    fn unknown_words_of_a_mask_take() {
+        for (bits, mask) in [(0, 0), (0, 5), (4, 5), (5, 5), (u64::MAX, u64::MAX)] {
+            assert_eq!(taken_many([6, bits, 0, 0, 0], mask), Ok(bits));
+        }
+        let refused = |number| taken_many([5, number, 0, 0, 0], 5);
+        assert_eq!(refused(2009), Err(Refusal::Doubleword));
+        assert_eq!(refused(2008), Err(Refusal::File));
+        assert_eq!(refused(2011), Err(Refusal::Overlap));
+        // A bit that isn't in the mask.
+        for (bits, mask) in [
+            (1, 0),
+            (2, 5),
+            (7, 5),
+            (UNWRITTEN, 5),
+            (1 << 63, !(1 << 63)),
+        ] {
+            refuses(move || taken_many([6, bits, 0, 0, 0], mask));
+        }
+        for words in [
+            [UNWRITTEN; 5],
+            [0, 1, 0, 0, 0],
+            [3, 0, 0, 0, 0],
+            [7, 1, 0, 0, 0],
+            [5, UNWRITTEN, 0, 0, 0],
+            [5, 2010, 0, 0, 0],
+            [5, 2009, 0, 0, 1],
+            [6, 1, 1, 0, 0],
+            [6, 1, 0, UNWRITTEN, 0],
+            [6, 1, 0, 0, UNWRITTEN],
+        ] {
+            refuses(move || taken_many(words, u64::MAX));
         }
     }
 

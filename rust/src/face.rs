@@ -39,6 +39,20 @@ mod c {
             out_length: usize,
         ) -> u64;
 
+        pub fn yasmurekh_take_many(
+            first_start: u64,
+            first: *mut u8,
+            first_length: usize,
+            second_start: u64,
+            second: *mut u8,
+            second_length: usize,
+            file: u64,
+            doubleword: u64,
+            mask: u64,
+            out: *mut u64,
+            out_length: usize,
+        ) -> u64;
+
         pub fn yasmurekh_report(
             first_start: u64,
             first: *const u8,
@@ -179,6 +193,33 @@ pub fn take(memory: &mut Memory, file: u64, identity: u64) -> [u64; 5] {
             second.bytes.len(),
             file,
             identity,
+            out.as_mut_ptr(),
+            out.len(),
+        )
+    };
+    answer::done(status);
+    out
+}
+
+/// A mask take's words, as a request's.
+pub fn take_many(memory: &mut Memory, file: u64, doubleword: u64, mask: u64) -> [u64; 5] {
+    let Memory { first, second } = memory;
+    let mut out = [UNWRITTEN; 5];
+    // All ones may be the answer, so these bits are none of the mask's. Under a mask of all ones they
+    // are 0: left unwritten, it hands nothing out.
+    out[1] = !mask;
+    // SAFETY: as in `request`.
+    let status = unsafe {
+        c::yasmurekh_take_many(
+            first.start,
+            first.bytes.as_mut_ptr(),
+            first.bytes.len(),
+            second.start,
+            second.bytes.as_mut_ptr(),
+            second.bytes.len(),
+            file,
+            doubleword,
+            mask,
             out.as_mut_ptr(),
             out.len(),
         )
@@ -340,6 +381,29 @@ mod tests {
         (status, pages)
     }
 
+    /// A mask take of all of the file's first doubleword.
+    fn raw_take_many(file: u64, out: &mut [u64]) -> (u64, Pages) {
+        let mut pages = FULL;
+        let [first, second] = &mut pages;
+        // SAFETY: as in `super::take_many`.
+        let status = unsafe {
+            c::yasmurekh_take_many(
+                0,
+                first.as_mut_ptr(),
+                first.len(),
+                4096,
+                second.as_mut_ptr(),
+                second.len(),
+                file,
+                0,
+                u64::MAX,
+                out.as_mut_ptr(),
+                out.len(),
+            )
+        };
+        (status, pages)
+    }
+
     /// A report of the file at an address.
     fn raw_report(file: u64, out: &mut [u64]) -> u64 {
         let [first, second] = &FULL;
@@ -367,6 +431,7 @@ mod tests {
             assert_eq!(raw_request(0, 0, short), (1, FULL));
             for file in [0, 4096] {
                 assert_eq!(raw_take(file, short), (1, FULL));
+                assert_eq!(raw_take_many(file, short), (1, FULL));
             }
             assert_eq!(out, [7; 4]);
         }
@@ -398,6 +463,14 @@ mod tests {
         assert_eq!(make(0), (0, [5, 2001, 0, 0, 0])); // the empty one starts in a page
         assert_eq!(make(4096), (0, [6, 1, 0, 0, 0]));
         assert_eq!(page[0], 0b1111_1101);
+        let mut out = [7; 5];
+        let (lent, room) = (page.as_mut_ptr(), out.as_mut_ptr());
+        // SAFETY: as in `super::take_many`; nothing is read or written through the other pointer.
+        let status = unsafe {
+            c::yasmurekh_take_many(0, nothing, 0, 4096, lent, 4096, 4096, 0, 0x83, room, 5)
+        };
+        assert_eq!((status, out), (0, [6, 0x81, 0, 0, 0]));
+        assert_eq!(page[0], 0b0111_1100);
     }
 
     #[test]
@@ -409,6 +482,10 @@ mod tests {
         assert_eq!((status, out), (0, [6, 1, 0, 0, 0, 7, 7]));
         assert_eq!((pages[0], pages[1][0]), (FULL[0], 0xFE));
         assert_eq!(pages[1][1..], FULL[1][1..]);
+        let (status, pages) = raw_take_many(4096, &mut out);
+        assert_eq!((status, out), (0, [6, u64::MAX, 0, 0, 0, 7, 7]));
+        assert_eq!((pages[0], &pages[1][..8]), (FULL[0], &[0; 8][..]));
+        assert_eq!(pages[1][8..], FULL[1][8..]);
         let mut out = [7; 68];
         assert_eq!(raw_report(4096, &mut out), 0);
         assert_eq!(out[..2], [0, 2048]);

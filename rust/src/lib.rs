@@ -4,7 +4,7 @@
 //! leaves behind, is proved. This crate gives them Rust types. It allocates nothing, keeps no state
 //! between calls, needs no `std`, and has no `unsafe` in its public face.
 //!
-//! There are three calls of the IOMMU. Each is lent a [`Memory`], two windows of physical memory that
+//! There are four calls of the IOMMU. Each is lent a [`Memory`], two windows of physical memory that
 //! hold all tables and all interrupt files: tables on chip and files in main memory, say, or both in one
 //! window, with the other empty. Every input gets an answer: there is nothing that a caller has to check
 //! first.
@@ -13,6 +13,7 @@
 //! |---|---|---|
 //! | [`request`] | answers one device request | one pending bit, where the answer is [`Answer::Stored`] |
 //! | [`take`] | takes one pending interrupt | the bit that it names, where the answer is `Ok(true)` |
+//! | [`take_many`] | takes the pending interrupts of a mask, of 64 | the bits that it answers |
 //! | [`report`] | shows one interrupt file | nothing |
 //!
 //! Page tables may be Sv39, Sv48 or Sv57 for the first stage (modes 8, 9 and 10 of fsc) and Sv39x4,
@@ -132,6 +133,38 @@ pub fn request(memory: &mut Memory, settings: &Settings, request: &Request) -> A
 /// ```
 pub fn take(memory: &mut Memory, file: u64, identity: u64) -> Result<bool, Refusal> {
     answer::taken(face::take(memory, file, identity))
+}
+
+/// Takes many interrupts at once: clears the pending bits of a doubleword that are in a mask, and gives
+/// those that were set.
+///
+/// `file` is the address of an interrupt file as for [`take`]; `doubleword`, at most 31, names 64 of its
+/// interrupts: identity n is bit n mod 64 of doubleword n / 64. `memory` is lent for the call. Only the
+/// bits that are answered change.
+///
+/// # Errors
+///
+/// [`Refusal::Window`], [`Refusal::Overlap`], [`Refusal::File`] and [`Refusal::Doubleword`], looked at in
+/// that order.
+///
+/// ```
+/// use yasmurekh::{take_many, Memory, Refusal};
+///
+/// let mut window = [0; 4096];
+/// window[512] = 0b1101; // identities 0, 2 and 3
+/// let mut memory = Memory::one(0, &mut window);
+/// assert_eq!(take_many(&mut memory, 512, 0, 0b0110), Ok(0b0100));
+/// assert_eq!(take_many(&mut memory, 512, 0, u64::MAX), Ok(0b1001));
+/// assert_eq!(take_many(&mut memory, 512, 0, u64::MAX), Ok(0));
+/// assert_eq!(take_many(&mut memory, 512, 32, 1), Err(Refusal::Doubleword));
+/// ```
+pub fn take_many(
+    memory: &mut Memory,
+    file: u64,
+    doubleword: u64,
+    mask: u64,
+) -> Result<u64, Refusal> {
+    answer::taken_many(face::take_many(memory, file, doubleword, mask), mask)
 }
 
 /// Shows one interrupt file: its pending and enable bits, and how many interrupts are pending.

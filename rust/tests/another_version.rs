@@ -10,7 +10,7 @@ use std::sync::OnceLock;
 const MESSAGE: &str = "the static library is of another version than this crate";
 
 /// The calls, each with words by which the stub answers it rightly and what is printed then.
-fn calls() -> [(&'static str, Vec<&'static str>, &'static str); 9] {
+fn calls() -> [(&'static str, Vec<&'static str>, &'static str); 10] {
     let mut report = vec!["0"; 66];
     (report[1], report[64]) = ("3", "7");
     [
@@ -20,6 +20,7 @@ fn calls() -> [(&'static str, Vec<&'static str>, &'static str); 9] {
             "translated to 0x1000",
         ),
         ("take", vec!["6", "1", "0", "0", "0"], "Ok(true)"),
+        ("take_many", vec!["6", "129", "0", "0", "0"], "Ok(129)"),
         ("report", report, "Ok(3)"),
         ("wire", vec![], "Ok(())"),
         ("write", vec![], "()"),
@@ -163,10 +164,37 @@ fn unwritten_words_panic() {
     }
 }
 
+/// The mask of the example's mask take is 255.
+#[test]
+fn a_mask_take_is_believed_within_its_mask() {
+    for bits in ["0", "255"] {
+        let output = call("take_many", 0, &["6", bits, "0", "0", "0"]);
+        let text = String::from_utf8_lossy(&output.stdout);
+        assert_eq!(text.trim_end(), format!("Ok({bits})"));
+    }
+    for (number, refusal) in [("2009", "Doubleword"), ("2011", "Overlap")] {
+        let output = call("take_many", 0, &["5", number, "0", "0", "0"]);
+        let text = String::from_utf8_lossy(&output.stdout);
+        assert_eq!(text.trim_end(), format!("Err({refusal})"));
+    }
+    for bits in ["256", "511", "18446744073709551615"] {
+        panics("take_many", 0, &["6", bits, "0", "0", "0"]);
+    }
+    for kind in ["0", "1", "2", "3", "4", "7", "18446744073709551615"] {
+        panics("take_many", 0, &[kind, "1", "0", "0", "0"]);
+    }
+    for place in 2..5 {
+        let mut words = ["6", "1", "0", "0", "0"];
+        words[place] = "1";
+        panics("take_many", 0, &words);
+    }
+    panics("take_many", 0, &["5", "2010", "0", "0", "0"]);
+}
+
 #[test]
 fn the_inline_functions_hand_back_the_words() {
     let words = ["4", "13", "7", "8", "2"];
-    for name in ["request", "take"] {
+    for name in ["request", "take", "take_many"] {
         assert_eq!(handed(name, 0, &words), "4 13 7 8 2");
     }
     let mut words = ["0"; 66];
@@ -180,7 +208,7 @@ fn the_inline_functions_hand_back_the_words() {
 fn the_inline_functions_refuse_what_they_do_not_know() {
     let words = ["7"; 66];
     for status in [1, 2, 2001, u64::MAX] {
-        for name in ["request", "take"] {
+        for name in ["request", "take", "take_many"] {
             assert_eq!(handed(name, status, &words), format!("5 {status} 0 0 0"));
             assert_eq!(handed(name, status, &[]), format!("5 {status} 0 0 0"));
         }
@@ -189,5 +217,6 @@ fn the_inline_functions_refuse_what_they_do_not_know() {
     // Nothing written, and a status that says that all is.
     assert_eq!(handed("request", 0, &[]), "5 1 0 0 0");
     assert_eq!(handed("take", 0, &[]), "5 1 0 0 0");
+    assert_eq!(handed("take_many", 0, &[]), "5 1 0 0 0");
     assert_eq!(handed("report", 0, &[]), "1 0 0");
 }

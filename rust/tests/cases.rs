@@ -401,13 +401,17 @@ fn an_empty_window_and_one_at_the_top() {
 fn numbers_and_words() {
     let numbers = Refusal::ALL.iter().map(|refusal| refusal.number());
     let checked = [2001, 2011].into_iter().chain(2002..=2009);
-    assert!(numbers.eq(checked.chain([2014, 2014])));
+    assert!(numbers.eq(checked.chain([2009, 2014, 2014])));
     for (place, stage) in Stage::ALL.iter().enumerate() {
         assert_eq!(stage.number(), place as u64);
     }
     assert_eq!(
         Refusal::File.to_string(),
         "refused (2008): no interrupt file of either window is at that address"
+    );
+    assert_eq!(
+        Refusal::Doubleword.to_string(),
+        "refused (2009): the doubleword number is above 31"
     );
     assert_eq!(
         fault(21, Stage::Second).to_string(),

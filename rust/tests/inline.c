@@ -35,6 +35,8 @@ int main(int count, char **words) {
         return show(yasmurekh_memory_request(&memory, &directory, &asked));
     if (count == 2 && strcmp(words[1], "take") == 0)
         return show(yasmurekh_memory_take(&memory, 0, 0));
+    if (count == 2 && strcmp(words[1], "take_many") == 0)
+        return show(yasmurekh_memory_take_many(&memory, 0, 0, 5));
     if (count == 2 && strcmp(words[1], "report") == 0)
         return show_report(yasmurekh_memory_report(&memory, 0));
     return 2;

@@ -35,6 +35,14 @@ uint64_t yasmurekh_take(uint64_t first_start, uint8_t *first, size_t first_len, 
     return answer(out, out_len);
 }
 
+uint64_t yasmurekh_take_many(uint64_t first_start, uint8_t *first, size_t first_len, uint64_t second_start,
+                             uint8_t *second, size_t second_len, uint64_t file, uint64_t doubleword, uint64_t mask,
+                             uint64_t *out, size_t out_len) {
+    (void)first_start, (void)first, (void)first_len, (void)second_start, (void)second, (void)second_len;
+    (void)file, (void)doubleword, (void)mask;
+    return answer(out, out_len);
+}
+
 uint64_t yasmurekh_report(uint64_t first_start, const uint8_t *first, size_t first_len, uint64_t second_start,
                           const uint8_t *second, size_t second_len, uint64_t file, uint64_t *out, size_t out_len) {
     (void)first_start, (void)first, (void)first_len, (void)second_start, (void)second, (void)second_len;

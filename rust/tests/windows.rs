@@ -1,8 +1,8 @@
 //! Two windows: what is looked for in both, which of them changes, and what is refused.
 
 use yasmurekh::{
-    report, request, take, Answer, Fault, Memory, Mode, Notice, Refusal, Request, Settings, Stage,
-    Window,
+    report, request, take, take_many, Answer, Fault, Memory, Mode, Notice, Refusal, Request,
+    Settings, Stage, Window,
 };
 
 const PAGE: u64 = 4096;
@@ -160,6 +160,10 @@ impl Two {
         take(&mut self.memory(), file, identity)
     }
 
+    fn take_many(&mut self, file: u64, doubleword: u64, mask: u64) -> Result<u64, Refusal> {
+        take_many(&mut self.memory(), file, doubleword, mask)
+    }
+
     /// The number of pending interrupts of a file.
     fn count(&mut self, file: u64) -> Result<u64, Refusal> {
         report(&self.memory(), file).map(|report| report.count)
@@ -179,7 +183,7 @@ impl Two {
         changes
     }
 
-    /// Sees that request, take and report are all refused, and change nothing.
+    /// Sees that request, both takes and report are all refused, and change nothing.
     #[track_caller]
     fn refused(mut self, refusal: Refusal) {
         let before = self.clone();
@@ -187,6 +191,7 @@ impl Two {
             assert_eq!(self.request(&asked), Answer::Refused(refusal));
         }
         assert_eq!(self.take(self.file, 36), Err(refusal));
+        assert_eq!(self.take_many(self.file, 0, u64::MAX), Err(refusal));
         assert_eq!(self.count(self.file), Err(refusal));
         assert_eq!(self, before);
     }
@@ -211,6 +216,9 @@ impl Two {
         assert_eq!(self, before);
         assert_eq!(self.take(file, 37), Ok(false));
         assert_eq!(self, before);
+        // By a mask: all of the fifth byte but bit 37, which isn't set.
+        assert_eq!(self.take_many(file, 0, 0xFF << 32), Ok(0xDF << 32));
+        assert_eq!(self.changes(&before), [(window, file + 4, 0xDF, 0)]);
     }
 }
 
@@ -247,6 +255,7 @@ fn pages_in_neither_window() {
                 _ => (Ok(false), Ok(2047)),
             };
             assert_eq!(two.take(file, 37), taken);
+            assert_eq!(two.take_many(file, 0, 1 << 37), taken.map(u64::from));
             assert_eq!(two.count(file), count);
             assert_eq!(two, before);
         }
@@ -318,6 +327,7 @@ fn overlap_before_the_other_refusals() {
         }
     }
     assert_eq!(two.take(1, u64::MAX), Err(Refusal::Overlap));
+    assert_eq!(two.take_many(1, u64::MAX, 1), Err(Refusal::Overlap));
     assert_eq!(two.count(1), Err(Refusal::Overlap));
     assert_eq!(two, before);
 }
@@ -381,11 +391,13 @@ fn files_of_both_windows() {
                 assert_eq!(two.changes(&before), [(window, file + 503, 0xFF, 0x7F)]);
                 assert_eq!(two.count(file), Ok(2047));
                 assert_eq!(two.take(file, 2048), Err(Refusal::Identity));
+                assert_eq!(two.take_many(file, 32, 1), Err(Refusal::Doubleword));
                 assert_eq!(two.count(file + 1), Err(Refusal::File));
             }
             let before = two.clone();
             for file in [page - 512, page + PAGE] {
                 assert_eq!(two.take(file, 0), Err(Refusal::File));
+                assert_eq!(two.take_many(file, 0, u64::MAX), Err(Refusal::File));
                 assert_eq!(two.count(file), Err(Refusal::File));
             }
             assert_eq!(two, before);
