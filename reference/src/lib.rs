@@ -19,6 +19,7 @@ pub mod iommu;
 pub mod layout;
 pub mod ledger;
 pub mod many;
+pub mod many_check;
 pub mod mark;
 pub mod memory;
 pub mod message;
