@@ -179,7 +179,7 @@ impl<L: Side, R: Side> Comparison<L, R> {
     ///
     /// After each call the answers and all bytes of both windows are compared and the ledger is fed
     /// with the library's answer. After the list the ledger is closed on the library's windows, and
-    /// each file that a take or a store named is reported by both sides.
+    /// each file that a take of either kind or a store named is reported by both sides.
     pub fn list(&mut self, list: &List) -> Result<u64, Difference> {
         copy(&mut self.library_memory, &list.memory);
         copy(&mut self.reference_memory, &list.memory);
@@ -214,7 +214,7 @@ impl<L: Side, R: Side> Comparison<L, R> {
         }
         match (call, library) {
             (_, Answer::Stored { file, .. }) => self.files.push(file),
-            (Call::Take { file, .. }, _) => self.files.push(*file),
+            (Call::Take { file, .. } | Call::TakeMany { file, .. }, _) => self.files.push(*file),
             _ => {}
         }
         let fed = ledger.feed(call, library);

@@ -210,34 +210,64 @@ fn simpler_calls(call: &Call) -> Vec<Call> {
                 .chain(identities.map(|identity| Call::Take { file, identity }))
                 .collect()
         }
+        Call::TakeMany {
+            file,
+            doubleword,
+            mask,
+        } => simpler_takes_of_many(file, doubleword, mask),
         Call::Request {
             mode,
             root,
             request,
             data,
-        } => {
-            let with = |mode, root, request, data| Call::Request {
-                mode,
-                root,
-                request,
-                data,
-            };
-            let mut calls = Vec::new();
-            for request in simpler_requests(&request) {
-                calls.push(with(mode, root, request, data));
-            }
-            for mode in simpler_numbers(mode) {
-                calls.push(with(mode, root, request, data));
-            }
-            for root in simpler_numbers(root) {
-                calls.push(with(mode, root, request, data));
-            }
-            for data in simpler_numbers(u64::from(data)) {
-                calls.push(with(mode, root, request, data as u32));
-            }
-            calls
-        }
+        } => simpler_asking(mode, root, &request, data),
     }
+}
+
+/// Requests with their settings and data, one field made simpler.
+fn simpler_asking(mode: u64, root: u64, request: &Request, data: u32) -> Vec<Call> {
+    let with = |mode, root, request: &Request, data| Call::Request {
+        mode,
+        root,
+        request: *request,
+        data,
+    };
+    let mut calls = Vec::new();
+    for request in simpler_requests(request) {
+        calls.push(with(mode, root, &request, data));
+    }
+    for mode in simpler_numbers(mode) {
+        calls.push(with(mode, root, request, data));
+    }
+    for root in simpler_numbers(root) {
+        calls.push(with(mode, root, request, data));
+    }
+    for data in simpler_numbers(u64::from(data)) {
+        calls.push(with(mode, root, request, data as u32));
+    }
+    calls
+}
+
+/// Takes of many with one number made simpler: a file, a lower doubleword number, a mask with fewer bits.
+fn simpler_takes_of_many(file: u64, doubleword: u64, mask: u64) -> Vec<Call> {
+    let with = |file, doubleword, mask| Call::TakeMany {
+        file,
+        doubleword,
+        mask,
+    };
+    let mut calls = Vec::new();
+    for file in simpler_numbers(file) {
+        calls.push(with(file, doubleword, mask));
+    }
+    // 31 and 32 are the two sides of what 2009 refuses.
+    let edges = [31, 32].into_iter().filter(|edge| *edge < doubleword);
+    for doubleword in edges.chain(simpler_numbers(doubleword)) {
+        calls.push(with(file, doubleword, mask));
+    }
+    for mask in simpler_numbers(mask) {
+        calls.push(with(file, doubleword, mask));
+    }
+    calls
 }
 
 /// Requests with one field made simpler.

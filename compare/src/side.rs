@@ -29,15 +29,20 @@ impl Side for Library {
                 request,
                 data,
             } => {
-                let settings = yasmurekh::Settings {
-                    mode: yasmurekh::Mode(*mode),
-                    root: *root,
-                };
+                let settings = settings_for_library(*mode, *root);
                 let request = request_for_library(request, *data);
                 answer_of_library(yasmurekh::request(&mut memory, &settings, &request))
             }
             Call::Take { file, identity } => match yasmurekh::take(&mut memory, *file, *identity) {
                 Ok(pending) => Answer::Taken(pending),
+                Err(refusal) => Answer::Refused(refusal.number()),
+            },
+            Call::TakeMany {
+                file,
+                doubleword,
+                mask,
+            } => match yasmurekh::take_many(&mut memory, *file, *doubleword, *mask) {
+                Ok(bits) => Answer::TakenMany(bits),
                 Err(refusal) => Answer::Refused(refusal.number()),
             },
         }
@@ -69,6 +74,13 @@ fn lent(memory: &mut Memory) -> yasmurekh::Memory<'_> {
     yasmurekh::Memory {
         first: window(&mut memory.first),
         second: window(&mut memory.second),
+    }
+}
+
+fn settings_for_library(mode: u64, root: u64) -> yasmurekh::Settings {
+    yasmurekh::Settings {
+        mode: yasmurekh::Mode(mode),
+        root,
     }
 }
 

@@ -152,6 +152,13 @@ impl Soup {
                 identity: self.random.below(2_050),
             };
         }
+        if self.random.chance(15) {
+            return Call::TakeMany {
+                file: (self.page() << 12) + self.random.below(8) * 512,
+                doubleword: self.random.below(33),
+                mask: self.random.pick(&[0, 1, u64::MAX]) ^ any(&mut self.random),
+            };
+        }
         let process = self.random.pick(&[0, 1, 2, 255, 256, 1 << 17]) + self.random.below(3);
         let process_id = self.random.chance(40).then_some(process);
         let identity = self.random.below(2_100) as u32;
@@ -224,6 +231,26 @@ fn free_window(random: &mut Random, near: u64) -> Window {
     }
 }
 
+/// Takes of both kinds with free numbers, and a take of many near a window.
+fn free_takes(random: &mut Random, memory: &Memory) -> [Call; 3] {
+    let single = Call::Take {
+        file: any(random),
+        identity: any(random),
+    };
+    let many = Call::TakeMany {
+        file: any(random),
+        doubleword: any(random),
+        mask: any(random),
+    };
+    let window = random.pick(&[&memory.first, &memory.second]);
+    let near = Call::TakeMany {
+        file: window.start.wrapping_add(random.below(17) * 512),
+        doubleword: random.below(33),
+        mask: any(random),
+    };
+    [single, many, near]
+}
+
 /// Free numbers over free bytes.
 fn free_list(index: u64) -> List {
     let mut random = Random::new(78, index);
@@ -253,10 +280,7 @@ fn free_list(index: u64) -> List {
             request,
             data: random.number() as u32,
         });
-        calls.push(Call::Take {
-            file: any(&mut random),
-            identity: any(&mut random),
-        });
+        calls.extend(free_takes(&mut random, &memory));
     }
     List { memory, calls }
 }
@@ -285,5 +309,6 @@ fn pages_that_point_anywhere() {
 #[test]
 fn free_numbers_over_free_bytes() {
     let coverage = compare_lists((0..10_000).map(free_list));
-    assert_eq!(coverage.calls, 200_000);
+    assert_eq!(coverage.calls, 400_000);
+    assert!(coverage.answers[6] > 1_000);
 }

@@ -1,6 +1,8 @@
 //! Sides that are wrong on purpose: each is found, made small, printed, and found again from the
 //! printed text.
 
+#[path = "mutants/many.rs"]
+mod many;
 #[path = "mutants/windows.rs"]
 mod windows;
 
@@ -43,10 +45,11 @@ fn same_report(report: Report) -> Report {
     report
 }
 
+/// A wrong rule that few lists show is met about twice in 200,000 calls.
 const OPTIONS: Options = Options {
     seed: 3,
     from: 0,
-    count: 200_000,
+    count: 1_000_000,
 };
 
 /// Runs two sides until they differ, and sees that the printed text differs in the same way.
@@ -290,8 +293,20 @@ fn checks(memory: &Memory, call: &Call) -> Vec<(u64, bool)> {
             (2008, broken_file(memory, *file)),
             (2009, *identity > 2_047),
         ]),
+        Call::TakeMany {
+            file, doubleword, ..
+        } => checks.extend([(2008, broken_file(memory, *file)), (2009, *doubleword > 31)]),
     }
     checks
+}
+
+/// Which of the calls it is.
+fn asked(call: &Call) -> Asked {
+    match call {
+        Call::Request { .. } => Asked::Request,
+        Call::Take { .. } => Asked::Take,
+        Call::TakeMany { .. } => Asked::TakeMany,
+    }
 }
 
 fn refused_report(refusal: u64) -> Report {
@@ -318,11 +333,7 @@ impl OtherOrder {
 
 impl Side for OtherOrder {
     fn call(&mut self, memory: &mut Memory, call: &Call) -> Answer {
-        let asked = match call {
-            Call::Request { .. } => Asked::Request,
-            Call::Take { .. } => Asked::Take,
-        };
-        match self.refusal(asked, &checks(memory, call)) {
+        match self.refusal(asked(call), &checks(memory, call)) {
             Some(number) => Answer::Refused(number),
             None => Library.call(memory, call),
         }
@@ -341,7 +352,11 @@ impl Side for OtherOrder {
 #[test]
 fn no_difference_with_the_checks_in_order() {
     let mut comparison = Comparison::new(OtherOrder { swapped: None }, Reference::default());
-    let outcome = run(&mut comparison, &OPTIONS, &mut std::io::sink());
+    let options = Options {
+        count: 200_000,
+        ..OPTIONS
+    };
+    let outcome = run(&mut comparison, &options, &mut std::io::sink());
     assert_eq!(outcome.found, None);
 }
 
@@ -372,8 +387,9 @@ fn two_checks_in_the_other_order() {
         assert_eq!(refusals, [other, first], "{}", mark.name());
         swapped += 1;
     }
-    // Every two of seven checks but 2004 and 2005, of which only one can be broken; of four; of three.
-    assert_eq!(swapped, 20 + 6 + 3);
+    // Every two of seven checks but 2004 and 2005, of which only one can be broken; of four, for each
+    // kind of take; of three.
+    assert_eq!(swapped, 20 + 6 + 6 + 3);
 }
 
 /// The reference with another rule of U for supervisors.

@@ -1,5 +1,5 @@
 //! The program's own checks: P1 to P14 of 01, its limits (with those of every scheme), the order of
-//! its refusals, the two windows, and the cases of the wired domain.
+//! its refusals, takes of many, the two windows, and the cases of the wired domain.
 
 use crate::aplic;
 use crate::device;
@@ -7,6 +7,7 @@ use crate::generate::Call;
 use crate::iommu::{report, request, take};
 use crate::layout::{leaf, pointer, root_of, Layout, ALL_FLAGS};
 use crate::ledger::Ledger;
+use crate::many_check;
 use crate::memory::{Memory, Window};
 use crate::message::{alignment, extract, recognised};
 use crate::process;
@@ -71,6 +72,7 @@ pub fn all() -> Vec<Check> {
     two_stage_rules(&mut checks);
     message_rules(&mut checks);
     ledger_rules(&mut checks);
+    many_check::all(&mut checks);
     window_check::all(&mut checks);
     aplic::check::all(&mut checks);
     aplic::direct_check::all(&mut checks);
@@ -126,7 +128,7 @@ pub fn one_window(start: u64, length: usize) -> Memory {
 }
 
 /// The same window with entry 2 of the message table.
-fn message_bench(entry: [u64; 2]) -> Layout {
+pub fn message_bench(entry: [u64; 2]) -> Layout {
     let mut layout = bench(message_context());
     layout.put(MESSAGES + 32, entry[0]);
     layout.put(MESSAGES + 40, entry[1]);

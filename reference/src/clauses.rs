@@ -4,7 +4,7 @@
 use std::io::Write;
 
 use crate::aplic::{Delivery, Domain};
-use crate::iommu::{report, request, take};
+use crate::iommu::{report, request, take, take_many};
 use crate::memory::{Memory, Side, Window};
 use crate::types::{Access, Request, Settings, Stage};
 
@@ -83,6 +83,7 @@ impl Rows {
             "v" => self.board()?.second.put(numbers[0], numbers[1])?,
             "r" => return self.board()?.request(numbers).map(Some),
             "t" => return Ok(Some(self.board()?.take(numbers[0], numbers[1]))),
+            "k" => return self.board()?.take_many(numbers).map(Some),
             "p" => return Ok(Some(self.board()?.report(numbers[0]))),
             "d" => self.domain = Some(Domain::new(delivery(numbers[0])?)),
             _ => return self.run_domain(letter, numbers),
@@ -229,6 +230,17 @@ impl Board {
         answer.numbers().to_vec()
     }
 
+    /// FILE, DOUBLEWORD and MASK.
+    fn take_many(&mut self, numbers: &[u64]) -> Result<Vec<u64>, Broken> {
+        let &[file, doubleword, mask] = numbers else {
+            return Err("three numbers are needed");
+        };
+        let mut memory = self.memory();
+        let answer = take_many(&mut memory, file, doubleword, mask);
+        self.keep(&memory);
+        Ok(answer.numbers().to_vec())
+    }
+
     /// The refusal, the count, the sum of the pending doublewords and that of the enable ones.
     fn report(&self, file: u64) -> Vec<u64> {
         let report = report(&self.memory(), file);
@@ -246,6 +258,7 @@ fn numbers_after(letter: &str) -> Option<usize> {
     match letter {
         "m" | "s" => Some(4),
         "r" => Some(7),
+        "k" => Some(3),
         "w" | "n" | "o" | "v" | "t" | "x" | "y" => Some(2),
         "p" | "d" | "z" | "c" | "g" => Some(1),
         "f" => Some(0),

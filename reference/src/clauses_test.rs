@@ -84,6 +84,10 @@ fn broken_lines_end_with_their_number() {
         "r 0 0 0 0 0 4 0x100000000",
         "t 0",
         "t 0 0 0",
+        "k 0 0",
+        "k 0 0 0 0",
+        "k 0 0 0x",
+        "k 0 0 18446744073709551616",
         "p",
         "p 0 0",
         "d",
@@ -112,6 +116,7 @@ fn broken_lines_end_with_their_number() {
         "v 0 0",
         "r 0 0 0 0 0 4 0",
         "t 0 0",
+        "k 0 0 0",
         "p 0",
         "x 1 1",
         "y 0 0",
@@ -175,12 +180,29 @@ fn second_windows() {
     assert_eq!(answers(text), Ok(expected.to_string()));
 }
 
+/// 02, Req 12: a take of many prints the ones that were set, of those in the mask; 2009 above doubleword
+/// 31. A single take is as it was.
+#[test]
+fn takes_of_many() {
+    let text = "m 0x1000 4096 1 0\nw 0x11f0 1\nw 0x3f0 0xf00000000000000f\nw 0x3f8 0xff\n\
+        k 0x1200 31 0x800000000000000a\np 0x1200\nt 0x1200 1985\nt 0x1200 1984\nk 0x1200 31 1\n\
+        k 0x1200 31 0xffffffffffffffff\nk 0x1200 31 0\nk 0x1200 32 0xffffffffffffffff\n\
+        k 0x1200 0x100000000 1\nt 0x1200 32\nt 0x1200 2048\nk 0x1201 32 1\np 0x1200\n";
+    let expected =
+        "1 6 9223372036854775818 0 0\n2 0 5 8070450532247928837 255\n3 6 0 0 0\n4 6 1 0 0\n\
+        5 6 0 0 0\n6 6 8070450532247928836 0 0\n7 6 0 0 0\n8 5 2009 0 0\n9 5 2009 0 0\n10 6 0 0 0\n\
+        11 5 2009 0 0\n12 5 2008 0 0\n13 0 0 0 255\n";
+    assert_eq!(answers(text), Ok(expected.to_string()));
+}
+
 /// 02, Req 05: 2001 covers both windows, and 2011 comes just after it.
 #[test]
 fn windows_that_are_refused() {
-    let text = "m 0 4096 5 0\nn 0x200 0\nr 0 0 0 0 0 4 0\nn 0 4096\nr 0 0 0 0 0 4 0\nt 1 0\np 1\n\
-        o 0x1000 4096\nr 0 0 0 0 0 4 0\n";
-    let expected = "1 5 2001 0 0 0\n2 5 2011 0 0 0\n3 5 2011 0 0\n4 2011 0 0 0\n5 5 2002 0 0 0\n";
+    let text =
+        "m 0 4096 5 0\nn 0x200 0\nr 0 0 0 0 0 4 0\nn 0 4096\nr 0 0 0 0 0 4 0\nt 1 0\nk 1 32 0\n\
+        p 1\no 0x1000 4096\nr 0 0 0 0 0 4 0\n";
+    let expected =
+        "1 5 2001 0 0 0\n2 5 2011 0 0 0\n3 5 2011 0 0\n4 5 2011 0 0\n5 2011 0 0 0\n6 5 2002 0 0 0\n";
     assert_eq!(answers(text), Ok(expected.to_string()));
 }
 
@@ -226,7 +248,7 @@ fn rows_have_the_stages_of_each_cause() {
         expected.extend(stages.iter().map(|stage| (cause, *stage)));
     }
     let rows = include_str!("../../crates/clauses/stdin").lines();
-    let calls = rows.filter(|line| line.starts_with(['r', 't', 'p', 'x', 'z', 'f', 'c', 'g']));
+    let calls = rows.filter(|line| line.starts_with(['r', 't', 'k', 'p', 'x', 'z', 'f', 'c', 'g']));
     let mut found = BTreeSet::new();
     for (call, answer) in calls.zip(include_str!("../../crates/clauses/stdout").lines()) {
         let values: Vec<u64> = answer

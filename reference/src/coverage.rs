@@ -4,7 +4,7 @@
 use std::collections::BTreeMap;
 
 use crate::generate::{list, Call, List};
-use crate::iommu::{report_observed, request_observed, take_observed};
+use crate::iommu::{report_observed, request_observed, take_many_observed, take_observed};
 use crate::ledger::Ledger;
 use crate::mark::{Mark, See, CAUSES};
 use crate::memory::{Memory, Side};
@@ -36,6 +36,11 @@ pub fn run_call(memory: &mut Memory, call: &Call, see: See) -> Answer {
             request_observed(&settings, memory, request, *data, see)
         }
         Call::Take { file, identity } => take_observed(memory, *file, *identity, see),
+        Call::TakeMany {
+            file,
+            doubleword,
+            mask,
+        } => take_many_observed(memory, *file, *doubleword, *mask, see),
     }
 }
 
@@ -64,9 +69,10 @@ impl Coverage {
             let answer = run_call(&mut memory, call, &mut see);
             self.calls += 1;
             self.answers[answer.numbers()[0] as usize] += 1;
-            if before != memory {
-                let verdict = check_change(&before, &memory, call, answer);
-                self.check(index, number, verdict);
+            let changed = before != memory;
+            let verdict = check_change(changed.then_some((&before, &memory)), call, answer);
+            self.check(index, number, verdict);
+            if changed {
                 for &side in Side::ALL {
                     let bytes = &mut before.window_mut(side).bytes;
                     bytes.clone_from(&memory.window(side).bytes);
@@ -91,7 +97,7 @@ impl Coverage {
     /// A report of each file that a take of the list named: its count is that of the ledger.
     fn check_reports(&mut self, list: &List, index: u64, memory: &Memory, ledger: &Ledger) {
         for (number, call) in list.calls.iter().enumerate() {
-            let Call::Take { file, .. } = call else {
+            let (Call::Take { file, .. } | Call::TakeMany { file, .. }) = call else {
                 continue;
             };
             let marks = &mut self.marks;
@@ -175,50 +181,102 @@ impl Coverage {
     }
 }
 
-/// Looks at a memory that changed. 01, What a request holds: only answers 2 and 6 may change it. 02,
-/// Req 05: a store changes at most one byte of one window, and so does a take: the one of the file
-/// that holds the identity's bit, in the window that the file lies in.
+/// What a call may change.
+enum Allowed {
+    /// The byte at this address gains this bit, where it hasn't got it.
+    Gain(u128, u8),
+    /// Each byte at these addresses loses these bits, which it has.
+    Lose(Vec<(u128, u8)>),
+}
+
+/// What an answer allows. 01, What a request holds: only answers 2 and 6 may change a window. 02, Req
+/// 05: a store changes at most one byte of one window, and so does a take: the one of the file that
+/// holds the identity's bit. 02, Req 12: a take of many changes no byte but one with an answered bit.
+fn allowed(call: &Call, answer: Answer) -> Allowed {
+    let byte = |file: u64, identity: u64| {
+        let place = u128::from(file) + u128::from(identity / 64 * 16 + identity % 64 / 8);
+        (place, 1 << (identity % 8))
+    };
+    match (call, answer) {
+        (Call::Request { request, data, .. }, Answer::Stored { file, .. }) => {
+            let identity = crate::message::identity_of(request.address, *data);
+            let (place, bit) = byte(file, identity);
+            Allowed::Gain(place, bit)
+        }
+        (Call::Take { file, identity }, Answer::Taken(true)) => {
+            Allowed::Lose(vec![byte(*file, *identity)])
+        }
+        (
+            Call::TakeMany {
+                file, doubleword, ..
+            },
+            Answer::TakenMany(answered),
+        ) => {
+            let first = u128::from(*file) + 16 * u128::from(*doubleword);
+            let bytes = (first..).zip(answered.to_le_bytes());
+            Allowed::Lose(bytes.filter(|(_, bits)| *bits != 0).collect())
+        }
+        _ => Allowed::Lose(Vec::new()),
+    }
+}
+
+/// Looks at the memory before and after a call, given where they differ: each byte that changed, in the
+/// window that it lies in, is one that the answer allows, and each that must change did.
 fn check_change(
-    before: &Memory,
-    after: &Memory,
+    changed: Option<(&Memory, &Memory)>,
     call: &Call,
     answer: Answer,
 ) -> Result<(), String> {
-    let (file, identity) = match (call, answer) {
-        (Call::Request { request, data, .. }, Answer::Stored { file, .. }) => {
-            (file, crate::message::identity_of(request.address, *data))
-        }
-        (Call::Take { file, identity }, Answer::Taken(true)) => (*file, *identity),
-        _ => return Err(format!("answer {:?} changed a window", answer.numbers())),
+    let found = match changed {
+        Some((before, after)) => changes(before, after)?,
+        None => Vec::new(),
     };
-    let byte = u128::from(file + identity / 64 * 16 + identity % 64 / 8);
-    let mut changed = 0;
+    let wrong = || Err(format!("answer {:?}: {found:x?}", answer.numbers()));
+    match allowed(call, answer) {
+        Allowed::Gain(place, bit) => match found[..] {
+            [] => Ok(()),
+            [(at, old, new)] if at == place && old & bit == 0 && new == old | bit => Ok(()),
+            _ => wrong(),
+        },
+        Allowed::Lose(bytes) => {
+            let lost = |(&(place, bits), &(at, old, new)): (&(u128, u8), &(u128, u8, u8))| {
+                at == place && old & bits == bits && new == old & !bits
+            };
+            match bytes.len() == found.len() && bytes.iter().zip(&found).all(lost) {
+                true => Ok(()),
+                false => wrong(),
+            }
+        }
+    }
+}
+
+/// The bytes that changed, with their addresses, before and after, those of the first window first.
+fn changes(before: &Memory, after: &Memory) -> Result<Vec<(u128, u8, u8)>, String> {
+    let mut found = Vec::new();
     for &side in Side::ALL {
         let (old, new) = (before.window(side), after.window(side));
         if (old.start, old.bytes.len()) != (new.start, new.bytes.len()) {
             return Err(format!("the {} window's place changed", side.name()));
         }
         for place in (0..old.bytes.len()).filter(|place| old.bytes[*place] != new.bytes[*place]) {
-            let difference = old.bytes[place] ^ new.bytes[place];
-            changed += 1;
-            if u128::from(old.start) + place as u128 != byte || difference != 1 << (identity % 8) {
-                return Err(format!("byte {place} of the {} changed", side.name()));
-            }
+            let address = u128::from(old.start) + place as u128;
+            found.push((address, old.bytes[place], new.bytes[place]));
         }
     }
-    match changed {
-        1 => Ok(()),
-        _ => Err(format!("{changed} bytes changed")),
-    }
+    Ok(found)
 }
 
 #[cfg(test)]
 mod tests {
-    use super::{run_call, Coverage};
+    use std::collections::BTreeSet;
+
+    use super::{check_change, run_call, Coverage};
+    use crate::check::{one_window, plain};
     use crate::generate::{list, Call, List};
     use crate::mark::Mark;
     use crate::memory::{Memory, Side, Window};
-    use crate::types::Answer;
+    use crate::message::identity_of;
+    use crate::types::{Access, Answer};
 
     #[test]
     fn generated_lists_keep_the_ledger() {
@@ -226,6 +284,155 @@ mod tests {
         assert!(coverage.failures.is_empty(), "{:?}", coverage.failures);
         assert!(coverage.unexpected().is_empty());
         assert_eq!(coverage.calls, 20_000);
+    }
+
+    /// A take of many of doubleword 31 of the file at 0x1200, all of whose bytes are ones, and what it
+    /// leaves there as pending and enable bits: whether the check of changes lets it pass.
+    fn passes(mask: u64, answered: u64, [pending, enable]: [u64; 2]) -> bool {
+        let mut before = one_window(0x1000, 0x1000);
+        before.first.bytes[0x200..0x400].fill(0xFF);
+        let mut after = before.clone();
+        after.first.bytes[0x3F0..0x3F8].copy_from_slice(&pending.to_le_bytes());
+        after.first.bytes[0x3F8..0x400].copy_from_slice(&enable.to_le_bytes());
+        let call = Call::TakeMany {
+            file: 0x1200,
+            doubleword: 31,
+            mask,
+        };
+        let changed = (before != after).then_some((&before, &after));
+        check_change(changed, &call, Answer::TakenMany(answered)).is_ok()
+    }
+
+    /// 02, Req 12: no byte but one with an answered bit changes.
+    #[test]
+    fn wrong_changes_are_found() {
+        let full = u64::MAX;
+        let mask = 0x8001_0000_0100_0003;
+        assert!(passes(mask, mask, [!mask, full]));
+        assert!(passes(0, 0, [full, full]));
+        assert!(passes(full, full, [0, full]));
+        for wrong in [
+            [full, full],
+            [!mask & !4, full],
+            [!mask & !(1 << 40), full],
+            [!mask | 1, full],
+            [!mask, !1],
+            [full, !mask],
+            [0, full],
+        ] {
+            assert!(!passes(mask, mask, wrong), "{wrong:x?}");
+        }
+        assert!(!passes(mask, 0, [!mask, full]));
+        assert!(!passes(mask, mask & !3, [!mask, full]));
+        assert!(!passes(0, 0, [!1, full]));
+    }
+
+    /// A store may leave the byte as it is, a successful take may not; and nothing else may change one.
+    #[test]
+    fn wrong_changes_of_single_calls_are_found() {
+        let zero = one_window(0x1000, 0x1000);
+        let mut one = zero.clone();
+        one.first.bytes[4] = 32;
+        let store = Answer::Stored {
+            file: 0x1000,
+            notice_address: 0,
+            notice_number: 0,
+        };
+        let write = Call::Request {
+            mode: 2,
+            root: 0,
+            request: plain(Access::Write, 0x8000_6000),
+            data: 37,
+        };
+        let take = |identity| Call::Take {
+            file: 0x1000,
+            identity,
+        };
+        let [gain, lose] = [Some((&zero, &one)), Some((&one, &zero))];
+        let passes = |changed, call, answer| check_change(changed, &call, answer).is_ok();
+        assert!(passes(gain, write, store) && passes(None, write, store));
+        assert!(!passes(lose, write, store) && !passes(gain, write, Answer::Discarded));
+        let [some, none] = [true, false].map(Answer::Taken);
+        assert!(passes(lose, take(37), some) && passes(None, take(37), none));
+        assert!(!passes(gain, take(37), some) && !passes(None, take(37), some));
+        assert!(!passes(lose, take(37), none) && !passes(lose, take(36), some));
+        assert!(!passes(lose, take(37), Answer::Refused(2008)));
+    }
+
+    /// What takes met of the calls before them in the list, by file and identity.
+    #[derive(Default)]
+    struct Meetings {
+        stored: BTreeSet<(u64, u64)>,
+        taken_singly: BTreeSet<(u64, u64)>,
+        taken_by_mask: BTreeSet<(u64, u64)>,
+        /// Takes of many that answered a bit that was stored, and those that answered several.
+        of_stores: [u64; 2],
+        /// Takes of many whose mask has a bit that was taken singly; single takes of 0 of a bit that a
+        /// mask took.
+        after_other: [u64; 2],
+    }
+
+    impl Meetings {
+        fn call(&mut self, call: &Call, answer: Answer) {
+            match (call, answer) {
+                (Call::Request { request, data, .. }, Answer::Stored { file, .. }) => {
+                    let identity = identity_of(request.address, *data);
+                    self.stored.insert((file, identity));
+                }
+                (Call::Take { file, identity }, Answer::Taken(true)) => {
+                    self.taken_singly.insert((*file, *identity));
+                }
+                (Call::Take { file, identity }, Answer::Taken(false)) => {
+                    let met = self.taken_by_mask.contains(&(*file, *identity));
+                    self.after_other[1] += u64::from(met);
+                }
+                (Call::TakeMany { file, .. }, Answer::TakenMany(answered)) => {
+                    self.take_many(call, *file, answered);
+                }
+                _ => {}
+            }
+        }
+
+        fn take_many(&mut self, call: &Call, file: u64, answered: u64) {
+            let Call::TakeMany {
+                doubleword, mask, ..
+            } = *call
+            else {
+                return;
+            };
+            let places = |word: u64| {
+                let ones = (0..64).filter(move |bit| word >> bit & 1 == 1);
+                ones.map(move |bit| (file, 64 * doubleword + bit))
+            };
+            let stored = places(answered).filter(|place| self.stored.contains(place));
+            let stored = stored.count();
+            self.of_stores[0] += u64::from(stored > 0);
+            self.of_stores[1] += u64::from(stored > 1);
+            let missed = places(mask & !answered).any(|p| self.taken_singly.contains(&p));
+            self.after_other[0] += u64::from(missed);
+            self.taken_by_mask.extend(places(answered));
+        }
+    }
+
+    /// Takes of many get what requests of the same list stored, and both kinds of take each other's
+    /// leavings.
+    #[test]
+    fn generated_takes_of_many_meet_the_other_calls() {
+        let mut sums = [0; 4];
+        for index in 0..20_000 {
+            let List { mut memory, calls } = list(14, index);
+            let mut met = Meetings::default();
+            for call in &calls {
+                let answer = run_call(&mut memory, call, &mut |_| {});
+                met.call(call, answer);
+            }
+            let counts = [met.of_stores, met.after_other].concat();
+            for (sum, count) in sums.iter_mut().zip(counts) {
+                *sum += count;
+            }
+        }
+        println!("{sums:?}");
+        assert!(sums.iter().all(|count| *count > 200), "{sums:?}");
     }
 
     /// Another window, or none.
@@ -239,7 +446,7 @@ mod tests {
 
     /// A mark with the word that it must not have: two checks in the other order, a page opened or
     /// barred, an edge passed or not, a field accepted or refused, windows refused or not, an entry or a
-    /// file found or not the wrong way round.
+    /// file found or not, a bit answered or not the wrong way round.
     fn wrong_word(mark: Mark) -> Option<Mark> {
         match mark {
             Mark::Before(asked, first, other) => Some(Mark::Before(asked, other, first)),
@@ -256,6 +463,10 @@ mod tests {
             )),
             Mark::Load(table, place, found) => Some(Mark::Load(table, place, other(found))),
             Mark::File(purpose, place, found) => Some(Mark::File(purpose, place, other(found))),
+            Mark::Bit(mut case) => {
+                case.answered = !case.answered;
+                Some(Mark::Bit(case))
+            }
             _ => None,
         }
     }
@@ -320,10 +531,12 @@ mod tests {
         };
         assert!(whole.holds());
         let wrong: Vec<Mark> = Mark::all().into_iter().filter_map(wrong_word).collect();
-        // The order of refusals has 20, 6 and 3 rows, the rule of U 42, the schemes' edges 26, the
-        // fields 64, 16 and 130, the windows 30 for each call, loads 7 and files 3 for each place.
-        let windows = 3 * 30 + 7 * 3 + 3 * 3;
-        assert_eq!(wrong.len(), 20 + 6 + 3 + 42 + 26 + 64 + 16 + 130 + windows);
+        // The order of refusals has 20, 6, 6 and 3 rows, the rule of U 42, the schemes' edges 26, the
+        // fields 64, 16 and 130, the windows 30 for each call, loads 7 and files 4 for each place, the
+        // bits of a take of many 8.
+        let windows = 4 * 30 + 7 * 3 + 4 * 3;
+        let orders = 20 + 6 + 6 + 3;
+        assert_eq!(wrong.len(), orders + 42 + 26 + 64 + 16 + 130 + windows + 8);
         for mark in wrong {
             let mut coverage = whole.clone();
             coverage.marks.insert(mark, 1);

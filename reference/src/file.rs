@@ -44,6 +44,17 @@ pub fn take(file: &mut [u8], identity: u64) -> bool {
     before >> bit & 1 == 1
 }
 
+/// 02, Req 12: clears those pending bits of a doubleword that are in the mask; gives the ones that were
+/// set.
+pub fn take_many(file: &mut [u8], doubleword: u64, mask: u64) -> u64 {
+    let (offset, _) = place(64 * doubleword);
+    let pending = &mut file[offset as usize..offset as usize + 8];
+    let before = read(pending);
+    let answered = before & mask;
+    write(pending, before & !answered);
+    answered
+}
+
 /// The 32 pairs of a file's bytes.
 pub fn pairs(file: &[u8]) -> [Pair; 32] {
     let mut pairs = [Pair::default(); 32];

@@ -21,6 +21,12 @@ pub enum Call {
         file: u64,
         identity: u64,
     },
+    /// 02, Req 12.
+    TakeMany {
+        file: u64,
+        doubleword: u64,
+        mask: u64,
+    },
 }
 
 /// Two windows and the calls that run over them in order; all of them give the same starts.
@@ -45,12 +51,15 @@ pub fn list(seed: u64, index: u64) -> List {
     let mut calls = Vec::new();
     let mut stored = Vec::new();
     for _ in 0..count {
-        let call = if world.random.chance(20) {
-            take_call(&mut world, &stored)
-        } else {
-            request_call(&mut world, &mut stored)
+        let call = match world.random.below(100) {
+            0..=13 => take_call(&mut world, &stored),
+            14..=24 => take_many_call(&mut world, &stored),
+            _ => request_call(&mut world, &mut stored),
         };
         calls.push(call);
+        if world.random.chance(1) {
+            calls.append(&mut stores_taken_at_once(&mut world));
+        }
     }
     let World { random, layout, .. } = &mut world;
     if random.chance(3) {
@@ -89,6 +98,174 @@ fn take_call(world: &mut World, stored: &[(u64, u64)]) -> Call {
         }
     }
     Call::Take { file, identity }
+}
+
+/// A take of many: of what was just stored, or of something else, or a bad one.
+fn take_many_call(world: &mut World, stored: &[(u64, u64)]) -> Call {
+    let last = match stored.last() {
+        Some(last) => *last,
+        None => (world.any_file(), 37),
+    };
+    let (mut file, mut identity) = world.random.choose(stored).unwrap_or(last);
+    let other = world.random.below(2_048);
+    match world.random.below(100) {
+        0..=39 => (file, identity) = last,
+        40..=54 => {}
+        55..=61 => identity = other,
+        62..=71 => {
+            file = world.random.choose(&world.files).unwrap_or(file);
+            identity = other;
+        }
+        72..=79 => {
+            file = world.random.choose(&world.files).unwrap_or(file);
+            identity = other % 64 + world.random.pick(&[0, 31 * 64]);
+        }
+        80..=83 => file = world.any_file(),
+        84..=90 => file = bad_file(world, file),
+        91..=97 => {}
+        _ => file = bad_file(world, file),
+    }
+    let (mut doubleword, bit) = (identity / 64, identity % 64);
+    if doubleword <= 31 && world.files.contains(&file) {
+        put_bits(world, file + 16 * doubleword, bit);
+    }
+    let pending = world.layout.get(file.wrapping_add(16 * doubleword));
+    let mask = choose_bits(&mut world.random, pending, bit);
+    if world.random.chance(6) {
+        doubleword = bad_doubleword(&mut world.random);
+    }
+    Call::TakeMany {
+        file,
+        doubleword,
+        mask,
+    }
+}
+
+/// Stores of some identities of one doubleword by one message target, with one of them at times taken
+/// singly, and a take of many behind them; nothing where no target is a message.
+fn stores_taken_at_once(world: &mut World) -> Vec<Call> {
+    let messages = world
+        .targets
+        .iter()
+        .filter(|target| target.message.is_some());
+    let messages: Vec<Target> = messages.copied().collect();
+    let random = &mut world.random;
+    let Some(target) = random.choose(&messages) else {
+        return Vec::new();
+    };
+    let file = target.message.unwrap_or(0);
+    let doubleword = random.pick(&[0, 1, 31, 31]);
+    let mut calls = Vec::new();
+    let mut bits = 0u64;
+    for _ in 0..random.between(2, 5) {
+        let bit = random.below(64);
+        bits |= 1 << bit;
+        let identity = (64 * doubleword + bit) as u32;
+        let (offset, data) = match random.chance(60) {
+            true => (0, identity),
+            false => (4, identity.swap_bytes()),
+        };
+        calls.push(write_of(world.mode, world.root, &target, offset, data));
+        if random.chance(15) {
+            let identity = u64::from(identity);
+            calls.push(Call::Take { file, identity });
+        }
+    }
+    let lowest = bits & bits.wrapping_neg();
+    let other = random.number();
+    calls.push(Call::TakeMany {
+        file,
+        doubleword,
+        mask: random.pick(&[bits, bits, u64::MAX, bits ^ lowest, bits | other, other]),
+    });
+    calls
+}
+
+/// A write of four bytes at an offset of a message target.
+fn write_of(mode: u64, root: u64, target: &Target, offset: u64, data: u32) -> Call {
+    Call::Request {
+        mode,
+        root,
+        request: Request {
+            device_id: target.device,
+            process_id: target.process,
+            supervisor: target.supervisor,
+            access: Access::Write,
+            address: target.address | offset,
+            length: 4,
+        },
+        data,
+    }
+}
+
+/// At times the pair of doublewords at an address of a file has bits set from the list's start on.
+fn put_bits(world: &mut World, address: u64, bit: u64) {
+    let random = &mut world.random;
+    let some = random.number() & random.number();
+    let pending = match random.below(10) {
+        0 => u64::MAX,
+        1 => random.number(),
+        2 => some,
+        3 => 7 << bit | 7 << bit >> 1,
+        4 => 0x0101_0101_0101_0101 << (bit % 8) | some,
+        _ => world.layout.get(address),
+    };
+    let enable = match random.below(6) {
+        0 => u64::MAX,
+        1 => random.number(),
+        2 => !pending,
+        _ => world.layout.get(address + 8),
+    };
+    world.layout.put(address, pending);
+    world.layout.put(address + 8, enable);
+}
+
+/// The mask of a take of many: one bit, none, all, the pending ones, those beside one, and others.
+fn choose_bits(random: &mut Random, pending: u64, bit: u64) -> u64 {
+    let pending = pending | 1 << bit;
+    match random.below(100) {
+        0..=17 => 1 << bit,
+        18..=31 => u64::MAX,
+        32..=37 => 0,
+        38..=49 => random.number(),
+        50..=57 => random.number() & random.number() & random.number(),
+        58..=63 => pending,
+        64..=75 => {
+            // The neighbours of a pending bit, and not it.
+            let ones = (0..64u64).filter(|place| pending >> place & 1 == 1);
+            let ones: Vec<u64> = ones.collect();
+            let one = 1u64 << random.choose(&ones).unwrap_or(bit);
+            one << 1 | one >> 1
+        }
+        76..=81 => !pending,
+        82..=87 => !(1 << bit),
+        88..=91 => 1 << bit | 1 << random.below(64),
+        _ => random.pick(&[
+            0xFFFF_FFFF,
+            0xFFFF_FFFF << 32,
+            1,
+            1 << 63,
+            0xFF << (bit & !7),
+            0x7FFF_FFFF_FFFF_FFFF,
+        ]),
+    }
+}
+
+/// A doubleword number that 2009 refuses.
+fn bad_doubleword(random: &mut Random) -> u64 {
+    let low = random.below(32);
+    match random.below(12) {
+        0..=2 => 32,
+        3 => 33,
+        4 => random.between(33, 63),
+        5 => 2_047,
+        6 => random.pick(&[64, 256, 2_048, 65_536]) + low,
+        7 => 1 << 32,
+        8 => low | 1 << random.between(32, 57),
+        9 => low | 1 << random.between(58, 63),
+        10 => u64::MAX,
+        _ => random.number(),
+    }
 }
 
 /// A file that 2008 refuses: off its alignment, or beside a window, where no other window is.

@@ -1,7 +1,9 @@
-//! The three calls: request, take, report (003, Process to translate an IOVA; 01).
+//! The four calls: request, take, take of many, report (003, Process to translate an IOVA; 01; 02, Req
+//! 12).
 
 use crate::device::{self, DeviceContext};
 use crate::file::{self, FILE_SIZE};
+use crate::many::Take;
 use crate::mark::{Asked, Mark, Point, See, Walk, Word};
 use crate::memory::{Memory, Side, Window};
 use crate::message::{self, MessageEntry};
@@ -80,6 +82,7 @@ fn refuse(asked: Asked, memory: &Memory, broken: &[Broken], see: See) -> Option<
     see(Mark::Point(point));
     match (asked, number) {
         (Asked::Take, 2008) => see(Mark::Point(Point::TakeRefused2008)),
+        (Asked::TakeMany, 2008) => see(Mark::Point(Point::TakeManyRefused2008)),
         (Asked::Report, 2008) => see(Mark::Point(Point::ReportRefused2008)),
         _ => {}
     }
@@ -477,6 +480,59 @@ pub fn take_observed(memory: &mut Memory, file: u64, identity: u64, see: See) ->
     Answer::Taken(was_pending)
 }
 
+/// 02, Req 12: the take of those pending interrupts of a doubleword that are in the mask.
+pub fn take_many(memory: &mut Memory, file: u64, doubleword: u64, mask: u64) -> Answer {
+    take_many_observed(memory, file, doubleword, mask, &mut |_| {})
+}
+
+/// The take of many; the observer is told of each check that decides, and of the bits.
+pub fn take_many_observed(
+    memory: &mut Memory,
+    file: u64,
+    doubleword: u64,
+    mask: u64,
+    see: See,
+) -> Answer {
+    let found = find_file(memory, file);
+    let mut broken = broken_windows(memory);
+    if broken.is_empty() {
+        note_file(Purpose::TakeMany, memory, file, found.ok(), see);
+    }
+    broken.extend(found.err());
+    broken.extend(broken_doubleword(doubleword));
+    let side = match (refuse(Asked::TakeMany, memory, &broken, see), found) {
+        (None, Ok(side)) => side,
+        (number, _) => return Answer::Refused(number.unwrap_or(2008)),
+    };
+    let bytes = file_of(memory, side, file);
+    let before = file::pairs(bytes);
+    let answered = file::take_many(bytes, doubleword, mask);
+    let take = Take {
+        before,
+        after: file::pairs(bytes),
+        doubleword: doubleword as usize,
+        mask,
+        answered,
+    };
+    take.tell(see);
+    Answer::TakenMany(answered)
+}
+
+/// Check 2009 of a take of many. 02, Req 12: a doubleword number above 31.
+fn broken_doubleword(doubleword: u64) -> Option<Broken> {
+    let point = match doubleword {
+        0..=31 => return None,
+        32 => Point::R2009Doubleword32,
+        33..=63 => Point::R2009DoublewordBelow64,
+        2_047 => Point::R2009Doubleword2047,
+        u64::MAX => Point::R2009DoublewordLast,
+        _ if doubleword.wrapping_mul(16) < FILE_SIZE => Point::R2009DoublewordWraps,
+        _ if doubleword as u32 <= 31 => Point::R2009DoublewordWide,
+        _ => Point::R2009DoublewordOther,
+    };
+    Some((2009, point))
+}
+
 /// The report of one file.
 pub fn report(memory: &Memory, file: u64) -> Report {
     report_observed(memory, file, &mut |_| {})
@@ -510,10 +566,10 @@ pub fn report_observed(memory: &Memory, file: u64, see: See) -> Report {
 
 #[cfg(test)]
 mod tests {
-    use super::{report, request, take};
+    use super::{report, request, take, take_many};
     use crate::memory::{Memory, Window};
     use crate::random::Random;
-    use crate::types::{Access, Request, Settings};
+    use crate::types::{Access, Answer, Request, Settings};
 
     /// A number at an edge, or any number.
     fn any(random: &mut Random) -> u64 {
@@ -573,7 +629,46 @@ mod tests {
             request(&settings, &mut memory, &asked, random.number() as u32);
             let (file, identity) = (any(&mut random), any(&mut random));
             take(&mut memory, file, identity);
+            let (doubleword, mask) = (any(&mut random), any(&mut random));
+            take_many(&mut memory, file, doubleword, mask);
             report(&memory, file);
         }
+    }
+
+    /// 02, Req 12: each answered bit is one successful take of its identity, so that a take of many
+    /// answers and leaves what takes of the mask's identities do, one after the other.
+    #[test]
+    fn a_take_of_many_is_takes_of_its_identities() {
+        let mut random = Random::new(12, 4);
+        let mut answered_some = 0;
+        for _ in 0..20_000 {
+            let mut memory = Memory {
+                first: any_window(&mut random),
+                second: any_window(&mut random),
+            };
+            let mut singly = memory.clone();
+            let other = any(&mut random);
+            let file = match random.below(5) {
+                0 => other,
+                1..=2 => memory.first.start.wrapping_add(random.below(16) * 512),
+                _ => memory.second.start.wrapping_add(random.below(16) * 512),
+            };
+            let (doubleword, mask) = (random.below(32), any(&mut random));
+            let answer = take_many(&mut memory, file, doubleword, mask);
+            let mut expected = Answer::TakenMany(0);
+            for bit in (0..64).filter(|bit| mask >> bit & 1 == 1) {
+                expected = match (take(&mut singly, file, 64 * doubleword + bit), expected) {
+                    (Answer::Taken(pending), Answer::TakenMany(answered)) => {
+                        Answer::TakenMany(answered | u64::from(pending) << bit)
+                    }
+                    (refused, _) => refused,
+                };
+            }
+            if mask != 0 {
+                assert_eq!((answer, memory), (expected, singly));
+            }
+            answered_some += u64::from(answer.numbers()[..2] > [6, 0][..]);
+        }
+        assert!(answered_some > 1_000, "{answered_some}");
     }
 }

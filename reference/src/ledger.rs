@@ -47,7 +47,9 @@ impl Ledger {
                 account.waiting = true;
                 Ok(())
             }
-            (Call::Request { .. }, Answer::Taken(_)) => Err("a request answered 6".to_string()),
+            (Call::Request { .. }, Answer::Taken(_) | Answer::TakenMany(_)) => {
+                Err("a request answered 6".to_string())
+            }
             (Call::Take { file, identity }, Answer::Taken(pending)) => {
                 let account = self.account(*file, *identity)?;
                 if account.waiting != pending {
@@ -57,10 +59,52 @@ impl Ledger {
                 account.waiting = false;
                 Ok(())
             }
-            (Call::Take { .. }, Answer::Refused(_)) => Ok(()),
+            (
+                Call::TakeMany {
+                    file,
+                    doubleword,
+                    mask,
+                },
+                Answer::TakenMany(answered),
+            ) => self.feed_many(*file, *doubleword, *mask, answered),
+            (Call::Take { .. } | Call::TakeMany { .. }, Answer::Refused(_)) => Ok(()),
             (Call::Take { .. }, _) => Err("a take answered neither 5 nor 6".to_string()),
+            (Call::TakeMany { .. }, _) => {
+                Err("a take of many answered neither 5 nor 6 with bits".to_string())
+            }
             _ => Ok(()),
         }
+    }
+
+    /// 02, Req 12: each answered bit is one successful take of its identity; a bit is answered exactly
+    /// when it is in the mask and its interrupt waits.
+    fn feed_many(
+        &mut self,
+        file: u64,
+        doubleword: u64,
+        mask: u64,
+        answered: u64,
+    ) -> Result<(), String> {
+        self.side(file)?;
+        if doubleword > 31 {
+            return Err(format!("{doubleword} is no doubleword of a file"));
+        }
+        for bit in 0..64 {
+            let [in_mask, is_answered] = [mask, answered].map(|word| word >> bit & 1 == 1);
+            // The mark of a bit that is in neither stays as it is.
+            if !in_mask && !is_answered {
+                continue;
+            }
+            let identity = 64 * doubleword + bit;
+            let account = self.account(file, identity)?;
+            if is_answered != (in_mask && account.waiting) {
+                let word = if is_answered { "answered" } else { "left out" };
+                return Err(format!("take of many: {file} {identity} {word}"));
+            }
+            account.takes += u64::from(is_answered);
+            account.waiting &= !is_answered;
+        }
+        Ok(())
     }
 
     /// The window that a file lies in; an error where it is in neither, or in both, where every call is

@@ -18,6 +18,8 @@ pub mod generate;
 pub mod iommu;
 pub mod layout;
 pub mod ledger;
+pub mod many;
+pub mod many_check;
 pub mod mark;
 pub mod memory;
 pub mod message;
@@ -34,6 +36,6 @@ pub mod window_check;
 pub mod windows;
 pub mod world;
 
-pub use iommu::{report, request, take};
+pub use iommu::{report, request, take, take_many};
 pub use memory::{Memory, Window};
 pub use types::{Access, Answer, Pair, Report, Request, Settings, Stage};

@@ -1,5 +1,6 @@
 //! Marks: the names of the sub-checks and outcomes that a call passes, for coverage.
 
+use crate::many::{self, BitCase, Many};
 use crate::memory::Side;
 use crate::scheme::{self, of_mode, page_bits, Scheme};
 use crate::types::{Access, Stage};
@@ -85,7 +86,15 @@ named!(
         R2008Above = "2008 file above the windows",
         R2008Empty = "2008 both windows empty",
         R2009 = "2009 identity above 2047",
+        R2009Doubleword32 = "2009 doubleword number 32",
+        R2009DoublewordBelow64 = "2009 doubleword number 33 to 63",
+        R2009Doubleword2047 = "2009 doubleword number 2047",
+        R2009DoublewordWide = "2009 doubleword number of 2^32 or more, bits 31:0 below 32",
+        R2009DoublewordWraps = "2009 doubleword number whose 16-fold is below 512 modulo 2^64",
+        R2009DoublewordLast = "2009 doubleword number 2^64 - 1",
+        R2009DoublewordOther = "2009 doubleword number, any other above 63",
         TakeRefused2008 = "take refused 2008",
+        TakeManyRefused2008 = "take of many refused 2008",
         ReportRefused2008 = "report refused 2008",
         ModeOff = "directory mode 0 Off",
         ModeBare = "directory mode 1 Bare",
@@ -237,16 +246,17 @@ named!(
     Asked {
         Request = "request",
         Take = "take",
+        TakeMany = "take of many",
         Report = "report",
     }
 );
 
 impl Asked {
-    /// 01, the table of refusals: the call's checks before any other step, in order.
+    /// 01, the table of refusals, and 02, Req 05 and 12: the call's checks before any other step, in order.
     fn checks(self) -> &'static [u64] {
         match self {
             Asked::Request => &[2001, 2011, 2002, 2003, 2004, 2005, 2006],
-            Asked::Take => &[2001, 2011, 2008, 2009],
+            Asked::Take | Asked::TakeMany => &[2001, 2011, 2008, 2009],
             Asked::Report => &[2001, 2011, 2008],
         }
     }
@@ -380,6 +390,14 @@ pub enum Mark {
     Message(Side, Side),
     /// An answer's number, and the windows of the request's tables.
     Ended(u64, Over),
+    /// What a take of many was given and answered.
+    Many(Many),
+    /// A bit of a take of many's doubleword, and what became of it.
+    Bit(BitCase),
+    /// The bit of a doubleword that a take of many answered.
+    AnsweredBit(u32),
+    /// The doubleword in which a take of many answered a bit.
+    AnsweredIn(usize),
     /// A cause, and the stage that found it.
     Cause(Stage, u64),
 }
@@ -591,6 +609,7 @@ impl Mark {
         marks.append(&mut message_marks());
         marks.append(&mut passed_marks());
         marks.append(&mut windows::marks());
+        marks.append(&mut many::marks());
         for (stage, causes) in CAUSES {
             marks.extend(causes.iter().map(|cause| Mark::Cause(stage, *cause)));
         }
@@ -622,6 +641,9 @@ impl Mark {
             Mark::Crossed(..) => "loads from window to window",
             Mark::File(..) | Mark::Message(..) => "files by window",
             Mark::Ended(..) => "answers by the windows of the tables",
+            Mark::Many(_) => "takes of many",
+            Mark::Bit(_) => "bits of a take of many",
+            Mark::AnsweredBit(_) | Mark::AnsweredIn(_) => "answered bits of a take of many",
             Mark::Cause(..) => "cause by stage",
         }
     }
@@ -692,6 +714,17 @@ impl Mark {
                 format!("stored, message entry in the {entry} window, file in the {file}")
             }
             Mark::Ended(answer, over) => format!("answer {answer}, {}", over.name()),
+            _ => self.many_name(),
+        }
+    }
+
+    /// The name of a mark about takes of many.
+    fn many_name(self) -> String {
+        match self {
+            Mark::Many(many) => many.name().to_string(),
+            Mark::Bit(case) => case.name(),
+            Mark::AnsweredBit(bit) => format!("bit {bit}"),
+            Mark::AnsweredIn(doubleword) => format!("doubleword {doubleword}"),
             _ => String::new(),
         }
     }

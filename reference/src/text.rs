@@ -8,6 +8,7 @@
 //! byte OFFSET VALUE                      (hexadecimal; only where the length leaves a rest)
 //! request MODE ROOT DEVICE PROCESS|- user|supervisor ACCESS ADDRESS LENGTH DATA = ANSWER
 //! take FILE IDENTITY = ANSWER
+//! take-many FILE DOUBLEWORD MASK = ANSWER
 //! end
 //! ```
 //!
@@ -57,6 +58,11 @@ fn write_window(side: Side, window: &Window) -> String {
 pub fn write_call(call: &Call) -> String {
     match call {
         Call::Take { file, identity } => format!("take {file} {identity}"),
+        Call::TakeMany {
+            file,
+            doubleword,
+            mask,
+        } => format!("take-many {file} {doubleword} {mask}"),
         Call::Request {
             mode,
             root,
@@ -123,7 +129,7 @@ pub fn read_lists(text: &str, mut each: impl FnMut(Written)) -> Result<(), Strin
             "word" | "byte" => {
                 read_bytes(&words, &mut memory.window_mut(side).bytes).ok_or_else(broken)?;
             }
-            "request" | "take" => {
+            "request" | "take" | "take-many" => {
                 let call = read_call(&words).ok_or_else(broken)?;
                 written.list.calls.push(call);
                 written.answers.push(right.to_string());
@@ -209,6 +215,13 @@ fn read_call(words: &[&str]) -> Option<Call> {
             identity: number(2)?,
         });
     }
+    if words[0] == "take-many" {
+        return Some(Call::TakeMany {
+            file: number(1)?,
+            doubleword: number(2)?,
+            mask: number(3)?,
+        });
+    }
     let access = Access::ALL
         .into_iter()
         .find(|access| access.name() == words[6.min(words.len() - 1)])?;
@@ -254,6 +267,7 @@ mod tests {
             "list 0\nfirst 0",
             "list 0\nthird 0 8",
             "list 0\nword 0 1",
+            "list 0\ntake-many 0 0 = 5 2008 0 0",
             "list 0\nfirst 0 16\nsecond 0 8\nword 8 1",
         ] {
             assert!(read_lists(line, |_| {}).is_err(), "{line}");

@@ -94,6 +94,8 @@ pub enum Answer {
     },
     Refused(u64),
     Taken(bool),
+    /// 02, Req 12: the bits that a take of many cleared.
+    TakenMany(u64),
 }
 
 impl Answer {
@@ -111,6 +113,7 @@ impl Answer {
             Answer::Fault { cause, .. } => [4, cause, 0, 0],
             Answer::Refused(number) => [5, number, 0, 0],
             Answer::Taken(pending) => [6, u64::from(pending), 0, 0],
+            Answer::TakenMany(answered) => [6, answered, 0, 0],
         }
     }
 

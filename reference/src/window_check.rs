@@ -4,7 +4,7 @@
 use crate::check::{message_context, p6_store, plain, run, two_stage_bench};
 use crate::check::{Checks, GIGA, MESSAGES, P6_ENTRY, START};
 use crate::generate::Call;
-use crate::iommu::{report, request, take};
+use crate::iommu::{report, request, take, take_many};
 use crate::layout::{leaf, pointer, root_of, Layout, ALL_FLAGS};
 use crate::ledger::Ledger;
 use crate::memory::{Memory, Side, Window};
@@ -18,6 +18,7 @@ pub fn all(checks: &mut Checks) {
     cuts(checks, "directories", &directories());
     swaps(checks);
     files(checks);
+    files_by_masks(checks);
     files_elsewhere(checks);
     ledger_of(checks, Side::First, Side::Second);
     ledger_of(checks, Side::Second, Side::First);
@@ -33,8 +34,8 @@ fn windows(places: [(u64, usize); 2]) -> Memory {
     Memory { first, second }
 }
 
-/// The refusals of a Bare request, of a take and of a report, 0 where there is none.
-fn refusals(memory: &mut Memory, asked: &Request, file: u64, identity: u64) -> [u64; 3] {
+/// The refusals of a Bare request, of a take, of a take of many and of a report, 0 where there is none.
+fn refusals(memory: &mut Memory, asked: &Request, file: u64, identity: u64) -> [u64; 4] {
     let refused = |answer: Answer| match answer {
         Answer::Refused(number) => number,
         _ => 0,
@@ -43,6 +44,7 @@ fn refusals(memory: &mut Memory, asked: &Request, file: u64, identity: u64) -> [
     [
         refused(request(&bare, memory, asked, 0)),
         refused(take(memory, file, identity)),
+        refused(take_many(memory, file, identity / 64, 1)),
         report(memory, file).refusal,
     ]
 }
@@ -87,7 +89,7 @@ fn lies(checks: &mut Checks) {
         for (order, places) in [("second", [first, other]), ("first", [other, first])] {
             let found = refusals(&mut windows(places), &asked, 0x80000, 0);
             let name = format!("the {order} window {name}: {refusal}");
-            checks.holds(&name, found == [refusal; 3]);
+            checks.holds(&name, found == [refusal; 4]);
         }
     }
 }
@@ -98,10 +100,12 @@ fn order(checks: &mut Checks) {
     let mut bad = plain(Access::Read, 4_095);
     (bad.device_id, bad.process_id, bad.supervisor) = (1 << 24, Some(1 << 20), true);
     let found = refusals(&mut windows([place; 2]), &bad, 1, 2_048);
-    checks.holds("2011 before 2003 to 2009", found == [2011; 3]);
+    checks.holds("2011 before 2003 to 2009", found == [2011; 4]);
     (bad.device_id, bad.process_id) = (0, None);
     let found = refusals(&mut windows([place; 2]), &bad, 0x90000, 0);
-    checks.holds("2011 before 2005, 2006 and 2008", found == [2011; 3]);
+    checks.holds("2011 before 2005, 2006 and 2008", found == [2011; 4]);
+    let found = refusals(&mut windows([place; 2]), &bad, 0x80000, 2_048);
+    checks.holds("2011 before 2009 of a file there", found == [2011; 4]);
     let settings = Settings {
         mode: 5,
         root: 1 << 44,
@@ -111,7 +115,7 @@ fn order(checks: &mut Checks) {
     checks.answer("2011 before 2002", found, Answer::Refused(2011));
     let both = [(0x80200, 0x1000), (0x80000, 0x1001)];
     let found = refusals(&mut windows(both), &bad, 1, 2_048);
-    checks.holds("2001 of both windows before 2011", found == [2001; 3]);
+    checks.holds("2001 of both windows before 2011", found == [2001; 4]);
 }
 
 /// A bench's one window cut in two after so many pages; the lower part is the first window or not.
@@ -147,8 +151,8 @@ fn joined(memory: &Memory, lower_first: bool) -> Vec<u8> {
     }
 }
 
-/// What a bench answers to writes at these addresses by a process or by none, then to takes and a
-/// report of P6's file.
+/// What a bench answers to writes at these addresses by a process or by none, then to takes of both
+/// kinds and a report of P6's file.
 fn conversation(memory: &mut Memory, bench: &Bench) -> (Vec<Answer>, Report) {
     let settings = Settings {
         mode: bench.mode,
@@ -162,7 +166,9 @@ fn conversation(memory: &mut Memory, bench: &Bench) -> (Vec<Answer>, Report) {
     }
     answers.push(take(memory, START + 0x1200, 38));
     let made = report(memory, START + 0x1200);
+    answers.push(take_many(memory, START + 0x1200, 0, !(1 << 37)));
     answers.push(take(memory, START + 0x1200, 37));
+    answers.push(take_many(memory, START + 0x1200, 0, u64::MAX));
     (answers, made)
 }
 
@@ -304,6 +310,31 @@ fn files(checks: &mut Checks) {
     }
 }
 
+/// Takes of many in each window; the file at the same offset of the other, with the same bits, and the
+/// files beside it are untouched.
+fn files_by_masks(checks: &mut Checks) {
+    for &side in Side::ALL {
+        let (_, file) = entry_of(side);
+        let mut memory = two_files([0; 2]).memory;
+        for &side in Side::ALL {
+            memory.window_mut(side).bytes[0x1000..0x1600].fill(0xFF);
+        }
+        let mut expected = memory.clone();
+        expected.window_mut(side).bytes[0x13F0..0x13F8].fill(0xF0);
+        let mask = 0x0F0F_0F0F_0F0F_0F0F;
+        let found = take_many(&mut memory, file, 31, mask);
+        let name = format!("take of many, {} window", side.name());
+        checks.answer(&name, found, Answer::TakenMany(mask));
+        checks.holds(
+            "its eight bytes lose 15, no other byte of either",
+            memory == expected,
+        );
+        let found = take_many(&mut memory, file + 0x2000_0000, 31, mask);
+        let name = "take of many, a file in neither window";
+        checks.answer(name, found, Answer::Refused(2008));
+    }
+}
+
 /// A file in neither window, and a message table in the second.
 fn files_elsewhere(checks: &mut Checks) {
     let write = plain(Access::Write, 0x8000_6000);
@@ -365,14 +396,23 @@ fn ledger_of_overlap(checks: &mut Checks) {
         file: 0x80000,
         identity: 0,
     };
-    let close = |answer: Answer| {
+    let close = |call: &Call, answer: Answer| {
         let mut ledger = Ledger::new(&memory);
-        ledger.feed(&call, answer)?;
+        ledger.feed(call, answer)?;
         ledger.close(&memory)
     };
-    let refused = close(Answer::Refused(2011)).is_ok();
+    let refused = close(&call, Answer::Refused(2011)).is_ok();
     checks.holds("ledger: a refused take, overlapping windows", refused);
     let name = "ledger rejects a take that overlapping windows answer";
-    let answers = [true, false].map(|pending| close(Answer::Taken(pending)).is_err());
+    let answers = [true, false].map(|pending| close(&call, Answer::Taken(pending)).is_err());
     checks.holds(name, answers == [true; 2]);
+    let call = Call::TakeMany {
+        file: 0x80000,
+        doubleword: 0,
+        mask: 1,
+    };
+    let refused = close(&call, Answer::Refused(2011)).is_ok();
+    checks.holds("ledger: a refused take of many there", refused);
+    let answers = [0, 1].map(|answered| close(&call, Answer::TakenMany(answered)).is_err());
+    checks.holds("ledger rejects a take of many there", answers == [true; 2]);
 }

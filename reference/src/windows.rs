@@ -218,6 +218,7 @@ named!(
     Purpose {
         Store = "store",
         Take = "take",
+        TakeMany = "take of many",
         Report = "report",
     }
 );
