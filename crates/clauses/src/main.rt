@@ -12,6 +12,7 @@ use state::State;
 fn numbers_after(letter: u8) -> usize {
     match letter {
         b'm' | b's' => 4,
+        b'k' => 3,
         b'r' => 7,
         b'w' | b'n' | b'o' | b'v' | b't' | b'x' | b'y' => 2,
         b'p' | b'd' | b'z' | b'c' | b'g' => 1,
@@ -39,6 +40,7 @@ fn on_window(
         b'v' => window::write(s, n, second),
         b'r' => window::request(s, n, first, second),
         b't' => window::take(s, n, first, second),
+        b'k' => window::take_many(s, n, first, second),
         _ => window::report(s, n, first, second),
     }
 }
@@ -73,7 +75,7 @@ fn obey(
     }
     match letter {
         b'm' => window::renew(s, n, first, second),
-        b's' | b'w' | b'n' | b'o' | b'v' | b'r' | b't' | b'p' => on_window(
+        b's' | b'w' | b'n' | b'o' | b'v' | b'r' | b't' | b'k' | b'p' => on_window(
             letter,
             n,
             s,

@@ -1,7 +1,8 @@
 // The rows about the memories of the two windows: their making, their bytes, and the calls of the IOMMU over the parts that are lent. Each buffer is as long as its call asks, so the call's status is 0.
 use crate::state;
 use crate::state::State;
-ghost use Prim.Native.Nat.{_≤_};
+ghost use Prim.Native.Nat.{_+_, _≤_};
+ghost use lib.ListN.{length};
 
 // START, LENGTH, MODE and ROOT, of the first window.
 pub fn lend(s: State, n: [u64; 7]) -> State {
@@ -43,26 +44,18 @@ pub fn renew_second(s: State, n: [u64; 7], second: &mut [u8; 131072]) -> State {
     lend_second(s, n)
 }
 
-// A doubleword, lowest byte first.
-fn put(memory: &mut [u8; 131072], at: usize, v: u64)
-    requires { ⌜ at ≤ 131064 ⌝ }
+fn put(bytes: &mut [u8], at: usize, v: u64)
+    requires { ⌜ at + 8 ≤ length (now bytes) ⌝ }
 {
-    memory[at] = (v % 256) as u8;
-    memory[at + 1] = (v / 256 % 256) as u8;
-    memory[at + 2] = (v / 65536 % 256) as u8;
-    memory[at + 3] = (v / 16777216 % 256) as u8;
-    memory[at + 4] = (v / 4294967296 % 256) as u8;
-    memory[at + 5] = (v / 1099511627776 % 256) as u8;
-    memory[at + 6] = (v / 281474976710656 % 256) as u8;
-    memory[at + 7] = (v / 72057594037927936) as u8;
+    memory::put_doubleword(&mut bytes[at..at + 8], v);
 }
 
 // OFFSET and VALUE.
-pub fn write(s: State, n: [u64; 7], memory: &mut [u8; 131072]) -> State {
+pub fn write(s: State, n: [u64; 7], bytes: &mut [u8; 131072]) -> State {
     if 131064 < n[0] {
         return state::broken(s);
     }
-    put(memory, n[0] as usize, n[1]);
+    put(bytes, n[0] as usize, n[1]);
     s
 }
 
@@ -112,6 +105,24 @@ pub fn take(s: State, n: [u64; 7], first: &mut [u8], second: &mut [u8]) -> State
         &mut second[..end2],
         n[0],
         n[1],
+        &mut out,
+    );
+    state::four(s, out[0], out[1], out[2], out[3])
+}
+
+// FILE, DOUBLEWORD and MASK.
+pub fn take_many(s: State, n: [u64; 7], first: &mut [u8], second: &mut [u8]) -> State {
+    let end = io::count(s.first_length, first);
+    let end2 = io::count(s.second_length, second);
+    let mut out = [0u64; 5];
+    capi_iommu::yasmurekh_take_many(
+        s.first_start,
+        &mut first[..end],
+        s.second_start,
+        &mut second[..end2],
+        n[0],
+        n[1],
+        n[2],
         &mut out,
     );
     state::four(s, out[0], out[1], out[2], out[3])

@@ -88,6 +88,16 @@ fn taken(a: Account, file: u64, identity: u64) -> Account {
     a
 }
 
+// A take of many: each answered bit is one successful take of its identity.
+fn taken_many(a: Account, file: u64, d: u64, bits: u64) -> Account {
+    if a.identity / 64 == d {
+        if (bits >> (a.identity % 64)) % 2 == 1 {
+            return taken(a, file, a.identity);
+        }
+    }
+    a
+}
+
 fn value(v: u64) {
     io::write_all(STDOUT_FILENO, b" ");
     io::print_decimal(STDOUT_FILENO, v);
@@ -147,6 +157,27 @@ fn take(
         low: taken(l.low, file, identity),
         high: taken(l.high, file, identity),
         other: taken(l.other, file, identity),
+    }
+}
+
+fn take_many(
+    first: &mut [u8; 12288],
+    second: &mut [u8; 4096],
+    l: Ledger,
+    file: u64,
+    d: u64,
+    mask: u64,
+) -> Ledger {
+    io::write_all(STDOUT_FILENO, b"take many");
+    let answer = iommu_files::take_many(layout::starts(SECOND), first, second, file, d, mask);
+    show(answer);
+    let Answer::Taken(bits) = answer else {
+        return l;
+    };
+    Ledger {
+        low: taken_many(l.low, file, d, bits),
+        high: taken_many(l.high, file, d, bits),
+        other: taken_many(l.other, file, d, bits),
     }
 }
 
@@ -222,6 +253,13 @@ fn ending(first: &mut [u8; 12288], second: &mut [u8; 4096], l0: Ledger) -> Ledge
     take(first, second, l1, FAR, 2048)
 }
 
+// The last doubleword, all of it; one that there isn't; and a mask without what is pending there.
+fn many(first: &mut [u8; 12288], second: &mut [u8; 4096], l0: Ledger) -> Ledger {
+    let l1 = take_many(first, second, l0, FAR, 31, 0xffffffffffffffff);
+    let l2 = take_many(first, second, l1, FAR, 32, 1);
+    take_many(first, second, l2, FAR, 0, 0xffffffdfffffffff)
+}
+
 fn first_half(first: &mut [u8; 12288], second: &mut [u8; 4096], l0: Ledger) -> Ledger {
     let l1 = merging(first, second, l0);
     failing(first, second, l1)
@@ -230,7 +268,8 @@ fn first_half(first: &mut [u8; 12288], second: &mut [u8; 4096], l0: Ledger) -> L
 fn calls(first: &mut [u8; 12288], second: &mut [u8; 4096], l0: Ledger) -> Ledger {
     let l1 = first_half(first, second, l0);
     let l2 = refused(first, second, l1);
-    ending(first, second, l2)
+    let l3 = ending(first, second, l2);
+    many(first, second, l3)
 }
 
 fn run(first: &mut [u8; 12288], second: &mut [u8; 4096], opening: Ledger) {
