@@ -1,4 +1,4 @@
-// A request, a take and a take of many for C and Rust: numbers and lent slices alone. Every input is answered.
+// A request and a take for C and Rust: numbers and lent slices alone. Every input is answered.
 use causes::Access;
 use directory_process::ProcessId;
 use iommu_files::Answer;
@@ -11,7 +11,7 @@ ghost use lib.ListN.{length as lengthOf};
 ghost use Rattle.memory.specs.Window.{lent, lentAt, Leaves};
 ghost use Rattle.capi_room.specs.Room.{status};
 ghost use Rattle.capi_iommu.specs.Face.{stageOf, withAnswer, chosenOf, processOf, settingsAt, requestFace, afterFace};
-ghost use Rattle.capi_iommu.specs.Calls.{requested, taken, takenMany, statusOf, wordsOf, leftOf};
+ghost use Rattle.capi_iommu.specs.Calls.{requested, taken, statusOf, wordsOf, leftOf};
 
 // An access that a number names.
 pub enum Chosen {
@@ -63,7 +63,7 @@ fn stage_of(a: Answer) -> u64
 }
 
 // Puts an answer into the first five words of a buffer.
-fn put_answer(out: &mut [u64], a: Answer)
+pub fn put_answer(out: &mut [u64], a: Answer)
     requires { ⌜ 5 ≤ lengthOf (now out) ⌝ }
     ensures { λ _. ⌜ now (out .exit) ≡ withAnswer (now (out .entry)) a ⌝ }
 {
@@ -183,34 +183,6 @@ pub extern "C" fn yasmurekh_take(
         second: second_start,
     };
     let a = iommu_files::take(starts, first, second, file, identity);
-    put_answer(out, a);
-    0
-}
-
-// A take of many. Status and `out` as for a request.
-#[no_mangle]
-pub extern "C" fn yasmurekh_take_many(
-    first_start: u64,
-    first: &mut [u8],
-    second_start: u64,
-    second: &mut [u8],
-    file: u64,
-    doubleword: u64,
-    mask: u64,
-    out: &mut [u64],
-) -> u64
-    ensures told { λ r. ⌜ r ≡ statusOf (takenMany file doubleword mask (now (out .entry))) ⌝ }
-    ensures answer { λ _. ⌜ now (out .exit) ≡ wordsOf (lentAt «first_start» (now (first .entry)) «second_start» (now (second .entry))) (takenMany file doubleword mask (now (out .entry))) ⌝ }
-    ensures bytes { λ _. ⌜ Leaves (leftOf (lentAt «first_start» (now (first .entry)) «second_start» (now (second .entry))) (takenMany file doubleword mask (now (out .entry)))) (now (first .exit)) (now (second .exit)) ⌝ }
-{
-    if out.len() < 5 {
-        return 1;
-    }
-    let starts = Starts {
-        first: first_start,
-        second: second_start,
-    };
-    let a = iommu_files::take_many(starts, first, second, file, doubleword, mask);
     put_answer(out, a);
     0
 }

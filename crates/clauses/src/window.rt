@@ -115,7 +115,7 @@ pub fn take_many(s: State, n: [u64; 7], first: &mut [u8], second: &mut [u8]) -> 
     let end = io::count(s.first_length, first);
     let end2 = io::count(s.second_length, second);
     let mut out = [0u64; 5];
-    capi_iommu::yasmurekh_take_many(
+    capi_many::yasmurekh_take_many(
         s.first_start,
         &mut first[..end],
         s.second_start,

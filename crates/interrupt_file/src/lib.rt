@@ -36,12 +36,15 @@ pub fn is_file(start: u64, len: u64, file: u64) -> bool
     memory::within(start, len, file, 1)
 }
 
+// Of a pair, the pending doubleword is the first, and the enable one 8 bytes behind it.
+const PENDING: u64 = 0;
+
 // The index of a file's pending doubleword; the pairs are 16 bytes apart.
 fn pending_at(start: u64, len: u64, file: u64, d: u64) -> usize
     requires { ⌜ (isFile start len file ≡ true) × (d < 32) ⌝ }
     ensures { λ r. ⌜ (start + r ≡ file + 16 * d) × (r + 8 ≤ len) ⌝ }
 {
-    (file - start + 16 * d) as usize
+    (file - start + 16 * d + PENDING) as usize
 }
 
 // Sets bit k of a doubleword, which is bit k mod 8 of its byte k div 8.

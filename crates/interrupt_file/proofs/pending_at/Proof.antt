@@ -11,8 +11,11 @@ sub-result c = omega (arith, file-at (c .pre .0))
 add-result : tie.Need-add-result
 add-result c = omega (arith, file-at (c .pre .0))
 
+add-result-2 : tie.Need-add-result-2
+add-result-2 c = omega (arith, file-at (c .pre .0))
+
 returns : tie.Need-returns
 returns c = let f = file-at (c .pre .0) in (omega arith, omega arith)
 
 pub pending-at-spec : {M : Type 1} → statement M
-pending-at-spec = tie.close (tie.spec sub-result (λ c. search needs) add-result returns)
+pending-at-spec = tie.close (tie.spec sub-result (λ c. search needs) add-result add-result-2 returns)

@@ -1,10 +1,10 @@
 -- `yasmurekh_take_many` meets its contract: one law for each return. Assumes nothing.
 use Rattle.capi_room.proofs.Rooms.{short-told, long-told, short-kept}
 use Rattle.capi_iommu.proofs.Faces.{short-left, long-left, long-answered}
 use native.Mathlib.Omega.{arith}
 use borrow.Author.Needs.{needs}
-use Rattle.capi_iommu.proofs.yasmurekh_take_many.Statement.{statement}
-use Rattle.capi_iommu.proofs.yasmurekh_take_many.Tie as tie
+use Rattle.capi_many.proofs.yasmurekh_take_many.Statement.{statement}
+use Rattle.capi_many.proofs.yasmurekh_take_many.Tie as tie
 
 returns : tie.Need-returns
 returns c = (short-told 5 _ (c .if1 .taken), (short-kept 5 _ _ _ (c .if1 .taken), short-left 5 _ _ _ (c .if1 .taken)))
