@@ -33,7 +33,7 @@ fn main() {
     let top = bench.join("..");
     refuse_stale(&top);
     link(&top.join("target/staticlib"), "capi");
-    println!("cargo:rustc-check-cfg=cfg(before, before_mask_take)");
+    println!("cargo:rustc-check-cfg=cfg(before, before_take_many)");
     println!("cargo:rustc-check-cfg=cfg(before_windows, values(\"one\", \"two\"))");
     if let Ok(folder) = env::var("YASMUREKH_BEFORE") {
         link(Path::new(&folder), "before");
@@ -41,12 +41,12 @@ fn main() {
         let windows = env::var("YASMUREKH_BEFORE_WINDOWS");
         let windows = windows.expect("one or two, as bench/before says");
         println!("cargo:rustc-cfg=before_windows=\"{windows}\"");
-        if env::var("YASMUREKH_BEFORE_MASK_TAKE").is_ok_and(|has| has == "yes") {
-            println!("cargo:rustc-cfg=before_mask_take");
+        if env::var("YASMUREKH_BEFORE_TAKE_MANY").is_ok_and(|has| has == "yes") {
+            println!("cargo:rustc-cfg=before_take_many");
         }
     }
     println!("cargo:rerun-if-env-changed=YASMUREKH_BEFORE");
     println!("cargo:rerun-if-env-changed=YASMUREKH_BEFORE_WINDOWS");
-    println!("cargo:rerun-if-env-changed=YASMUREKH_BEFORE_MASK_TAKE");
+    println!("cargo:rerun-if-env-changed=YASMUREKH_BEFORE_TAKE_MANY");
     println!("cargo:rerun-if-changed=build.rs");
 }

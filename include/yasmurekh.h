@@ -73,7 +73,7 @@ extern "C" {
 #define YASMUREKH_DISCARDED 3u
 #define YASMUREKH_FAULT 4u   /* cause; the stage in YASMUREKH_OUT_STAGE */
 #define YASMUREKH_REFUSED 5u /* refusal */
-#define YASMUREKH_TAKEN 6u   /* take: 1 if the interrupt was pending, else 0; mask take: the bits taken */
+#define YASMUREKH_TAKEN 6u   /* take: 1 if the interrupt was pending, else 0; take of many: the bits taken */
 
 /* Refusals, in the order in which they are looked for; 2010 comes first. */
 #define YASMUREKH_REFUSAL_WINDOW 2001u       /* a window's start or length not whole pages, or its end above 2^56 */
@@ -86,7 +86,7 @@ extern "C" {
 #define YASMUREKH_REFUSAL_FILE_OUTSIDE 2007u /* request: a storable message, its file in neither window */
 #define YASMUREKH_REFUSAL_FILE 2008u         /* both takes, report: no file of either window */
 #define YASMUREKH_REFUSAL_IDENTITY 2009u     /* take: identity above 2047 */
-#define YASMUREKH_REFUSAL_DOUBLEWORD 2009u   /* mask take: doubleword number above 31 */
+#define YASMUREKH_REFUSAL_DOUBLEWORD 2009u   /* take of many: doubleword number above 31 */
 #define YASMUREKH_REFUSAL_NUMBER 2010u       /* request: unknown access or flag */
 #define YASMUREKH_REFUSAL_SOURCE 2014u       /* wire: source outside 1 to 63; the status of the call */
 #define YASMUREKH_REFUSAL_HART 2014u         /* claim, signal: hart above 15; the status of the call */
@@ -190,7 +190,7 @@ uint64_t yasmurekh_take(uint64_t first_start, uint8_t *first, size_t first_len,
                         size_t out_len);
 
 /*
- * The mask take: takes many interrupts of the file at physical address `file` at once.
+ * The take of many: takes many interrupts of the file at physical address `file` at once.
  * `doubleword`, 0 to 31, names 64 of them: identity n is bit n mod 64 of doubleword
  * n div 64. The first value of the answer has the bits of `mask` whose interrupts were
  * pending, and those are pending no more: as a take of each of them does it. A mask

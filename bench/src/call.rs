@@ -29,7 +29,7 @@ pub struct Settings {
 pub const PROCESS_GIVEN: u8 = 1;
 pub const SUPERVISOR: u8 = 2;
 
-/// A request; or a take, which uses the address as its file and the value as its identity; or a mask take,
+/// A request; or a take, which uses the address as its file and the value as its identity; or a take of many,
 /// whose file is the address, its doubleword the value, and its mask device and process.
 #[derive(Clone, Copy, Debug)]
 pub struct Call {
@@ -55,7 +55,7 @@ impl Call {
         }
     }
 
-    pub fn mask_take(file: u64, doubleword: u32, mask: u64) -> Call {
+    pub fn take_many(file: u64, doubleword: u32, mask: u64) -> Call {
         Call {
             process: mask as u32,
             value: doubleword,
@@ -63,7 +63,7 @@ impl Call {
         }
     }
 
-    /// The mask of a mask take.
+    /// The mask of a take of many.
     #[inline]
     pub fn mask(&self) -> u64 {
         u64::from(self.device) << 32 | u64::from(self.process)

@@ -27,7 +27,7 @@ fn once<P: Program>(kind: Kind, memory: &mut Memory, settings: &Settings, call: 
     match kind {
         Kind::Requests => P::request(memory, settings, call),
         Kind::Takes => P::take(memory, call.address, u64::from(call.value)),
-        Kind::MaskTakes { fresh } => at_once::<P>(memory, call, fresh),
+        Kind::TakesOfMany { fresh } => at_once::<P>(memory, call, fresh),
         Kind::SingleTakes { fresh } => singly::<P>(memory, call, fresh),
     }
 }
@@ -45,7 +45,7 @@ fn refill(memory: &mut Memory, call: &Call, fresh: u64) {
     *word = (u64::from_le_bytes(*word) | fresh).to_le_bytes();
 }
 
-/// A mask take, after the bits came in.
+/// A take of many, after the bits came in.
 #[inline(always)]
 fn at_once<P: Program>(memory: &mut Memory, call: &Call, fresh: u64) -> Numbers {
     refill(memory, call, fresh);
@@ -91,12 +91,12 @@ fn run<P: Program>(row: &Row, memory: &mut Memory) -> u64 {
         Kind::Takes => calls.fold(0, |sum, call| {
             summed(sum, once::<P>(Kind::Takes, memory, &settings, call))
         }),
-        Kind::MaskTakes { fresh } => run_at_once::<P>(&row.calls, memory, fresh),
+        Kind::TakesOfMany { fresh } => run_at_once::<P>(&row.calls, memory, fresh),
         Kind::SingleTakes { fresh } => run_singly::<P>(&row.calls, memory, fresh),
     }
 }
 
-/// Mask takes; a function of its own, so that the other loops keep their registers.
+/// Takes of many; a function of its own, so that the other loops keep their registers.
 #[inline(never)]
 fn run_at_once<P: Program>(calls: &[Call], memory: &mut Memory, fresh: u64) -> u64 {
     calls.iter().fold(0, |sum, call| {
@@ -141,15 +141,15 @@ fn compare_two(row: &Row, ours: Side, theirs: Side) -> Result<(), String> {
 }
 
 /// Why an earlier library can't run a row, if it can't: it has one window and the row two; or it has no
-/// mask take; or it takes the row's contexts for misconfigured (259), since a mode or a mask came after
+/// take of many; or it takes the row's contexts for misconfigured (259), since a mode or a mask came after
 /// it. No row asks for that fault.
 pub fn unknown(row: &Row, side: Side) -> Option<&'static str> {
     let mut memory = row.world.memory();
     if cfg!(before_windows = "one") && !memory.second.bytes.is_empty() {
         return Some("one window only");
     }
-    if !cfg!(before_mask_take) && matches!(row.kind, Kind::MaskTakes { .. }) {
-        return Some("no mask take");
+    if !cfg!(before_take_many) && matches!(row.kind, Kind::TakesOfMany { .. }) {
+        return Some("no take of many");
     }
     let first = (side.once)(row.kind, &mut memory, &row.world.settings, &row.calls[0]);
     (first[..2] == [4, 259]).then_some("not served: fault 259")

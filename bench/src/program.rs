@@ -61,13 +61,13 @@ impl Program for Before {
         crate::proved::before::take(memory, file, identity)
     }
 
-    #[cfg(before_mask_take)]
+    #[cfg(before_take_many)]
     #[inline]
     fn take_many(memory: &mut Memory, file: u64, doubleword: u64, mask: u64) -> Numbers {
         crate::proved::before::take_many(memory, file, doubleword, mask)
     }
 
-    #[cfg(not(before_mask_take))]
+    #[cfg(not(before_take_many))]
     fn take_many(_: &mut Memory, _: u64, _: u64, _: u64) -> Numbers {
         unreachable!("measure::unknown leaves these rows out")
     }

@@ -12,7 +12,7 @@ pub struct Raw {
     pub value: u32,
 }
 
-/// The functions of an archive over two windows, by their names in it; the mask take where it has one.
+/// The functions of an archive over two windows, by their names in it; the take of many where it has one.
 macro_rules! two_windows {
     ($module:ident, $request:literal, $take:literal $(, $take_many:literal)?) => {
         pub mod $module {
@@ -250,9 +250,9 @@ two_windows!(
     "yasmurekh_take",
     "yasmurekh_take_many"
 );
-#[cfg(all(before_windows = "two", not(before_mask_take)))]
+#[cfg(all(before_windows = "two", not(before_take_many)))]
 two_windows!(before, "before_yasmurekh_request", "before_yasmurekh_take");
-#[cfg(before_mask_take)]
+#[cfg(before_take_many)]
 two_windows!(
     before,
     "before_yasmurekh_request",

@@ -11,7 +11,7 @@ pub enum Kind {
     Requests,
     Takes,
     /// The benchmark makes these bits of the doubleword pending before each.
-    MaskTakes {
+    TakesOfMany {
         fresh: u64,
     },
     /// The same bits by a take for each; a call of the row is all of them.
@@ -266,16 +266,16 @@ fn of_doublewords(name: &str, kind: Kind, places: Places, mask: fn(&mut Random) 
     for call in &mut row.calls {
         let file = random.pick(&row.world.files);
         let doubleword = random.below(32) as u32;
-        *call = Call::mask_take(file, doubleword, mask(&mut random));
+        *call = Call::take_many(file, doubleword, mask(&mut random));
     }
     row
 }
 
-/// Two bits come in before each mask take, whose mask has half of the bits, by chance: those that it
+/// Two bits come in before each take of many, whose mask has half of the bits, by chance: those that it
 /// leaves wait for the next of that doubleword.
-fn mask_takes(places: Places) -> Row {
-    let name = "mask takes, at most 2 bits pending";
-    let kind = Kind::MaskTakes {
+fn takes_of_many(places: Places) -> Row {
+    let name = "takes of many, at most 2 bits pending";
+    let kind = Kind::TakesOfMany {
         fresh: 1 << 20 | 1 << 42,
     };
     of_doublewords(name, kind, places, Random::number)
@@ -400,7 +400,7 @@ pub fn main_rows() -> Vec<Row> {
     rows.extend([redirected(), refusals(), file_outside(first)]);
     rows.append(&mut faults());
     rows.push(takes(first));
-    rows.push(mask_takes(first));
+    rows.push(takes_of_many(first));
     rows
 }
 
@@ -423,7 +423,7 @@ pub fn place_rows() -> Vec<Vec<Row>> {
         stored,
         file_outside,
         takes,
-        mask_takes,
+        takes_of_many,
     ];
     made.map(|row| ALL.map(row).into()).into()
 }
@@ -447,16 +447,16 @@ pub fn window_rows() -> Vec<Row> {
     made.into()
 }
 
-/// All 64 bits of a doubleword, by one mask take and by 64 single takes.
+/// All 64 bits of a doubleword, by one take of many and by 64 single takes.
 pub fn doubleword_rows() -> Vec<Row> {
     let fresh = u64::MAX;
     let made = [
         (
-            "one mask take of 64 pending bits",
-            Kind::MaskTakes { fresh },
+            "one take of many, 64 bits pending",
+            Kind::TakesOfMany { fresh },
         ),
         (
-            "64 single takes of 64 pending bits",
+            "64 single takes, 64 bits pending",
             Kind::SingleTakes { fresh },
         ),
     ];

@@ -194,13 +194,13 @@ static void many(void)
     request("write of 63 to file 2", DEVICE, YASMUREKH_WRITE, 0x2000, 4, 63);
     request("write of 64 to file 2", DEVICE, YASMUREKH_WRITE, 0x2000, 4, 64);
     report("report of the file", FILE_1);
-    take_many("mask take of 0 to 62", 0, UINT64_MAX >> 1);
+    take_many("take of many, 0 to 62", 0, UINT64_MAX >> 1);
     report("report of the file", FILE_1);
-    take_many("mask take of 0 to 63", 0, UINT64_MAX);
-    take_many("mask take of 64 to 127", 1, UINT64_MAX);
-    take_many("mask take of 64 to 127 again", 1, UINT64_MAX);
+    take_many("take of many, 0 to 63", 0, UINT64_MAX);
+    take_many("take of many, 64 to 127", 1, UINT64_MAX);
+    take_many("take of many, 64 to 127 again", 1, UINT64_MAX);
     report("report of the file", FILE_1);
-    take_many("mask take of 2048 to 2111", YASMUREKH_FILE_PAIRS, UINT64_MAX);
+    take_many("take of many, 2048 to 2111", YASMUREKH_FILE_PAIRS, UINT64_MAX);
 }
 
 /* A write of 38 to file 2, a read of the buffer and a take, over other windows. */

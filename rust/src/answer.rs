@@ -94,13 +94,13 @@ pub(crate) fn taken(words: [u64; 5]) -> Result<bool, Refusal> {
     }
 }
 
-/// A mask take's words: the bits of the mask that were pending, or the refusal.
+/// A take of many's words: the bits of the mask that were pending, or the refusal.
 pub(crate) fn taken_many(words: [u64; 5], mask: u64) -> Result<u64, Refusal> {
     match words {
         [5, 2009, 0, 0, 0] => Err(Refusal::Doubleword),
         [5, number, 0, 0, 0] => Err(Refusal::from_number(number)),
         [6, bits, 0, 0, 0] if bits & !mask == 0 => Ok(bits),
-        [kind, ..] => another_version("answer of a mask take", kind),
+        [kind, ..] => another_version("answer of a take of many", kind),
     }
 }
 
@@ -291,7 +291,7 @@ pub enum Refusal {
     File,
     /// 2009: take: the identity is above 2,047.
     Identity,
-    /// 2009 too: mask take: the doubleword number is above 31.
+    /// 2009 too: take of many: the doubleword number is above 31.
     Doubleword,
     /// 2014: wire change of a domain: no source has that number, 1 to 63.
     Source,
@@ -549,7 +549,7 @@ mod tests {
     }
 
     #[test]
-    fn unknown_words_of_a_mask_take() {
+    fn unknown_words_of_a_take_many() {
         for (bits, mask) in [(0, 0), (0, 5), (4, 5), (5, 5), (u64::MAX, u64::MAX)] {
             assert_eq!(taken_many([6, bits, 0, 0, 0], mask), Ok(bits));
         }

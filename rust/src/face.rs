@@ -201,7 +201,7 @@ pub fn take(memory: &mut Memory, file: u64, identity: u64) -> [u64; 5] {
     out
 }
 
-/// A mask take's words, as a request's.
+/// A take of many's words, as a request's.
 pub fn take_many(memory: &mut Memory, file: u64, doubleword: u64, mask: u64) -> [u64; 5] {
     let Memory { first, second } = memory;
     let mut out = [UNWRITTEN; 5];
@@ -381,7 +381,7 @@ mod tests {
         (status, pages)
     }
 
-    /// A mask take of all of the file's first doubleword.
+    /// A take of many of all of the file's first doubleword.
     fn raw_take_many(file: u64, out: &mut [u64]) -> (u64, Pages) {
         let mut pages = FULL;
         let [first, second] = &mut pages;

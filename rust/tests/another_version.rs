@@ -164,9 +164,9 @@ fn unwritten_words_panic() {
     }
 }
 
-/// The mask of the example's mask take is 255.
+/// The mask of the example's take of many is 255.
 #[test]
-fn a_mask_take_is_believed_within_its_mask() {
+fn a_take_many_is_believed_within_its_mask() {
     for bits in ["0", "255"] {
         let output = call("take_many", 0, &["6", bits, "0", "0", "0"]);
         let text = String::from_utf8_lossy(&output.stdout);
