@@ -74,8 +74,8 @@ impl fmt::Display for Answer {
     }
 }
 
-/// What the words that a call answers in hold before it. Only a pair of a report and the bits of a mask
-/// take may be this after it.
+/// What the words that a call answers in hold before it. Only a pair of a report and the bits of a take
+/// of many may be this after it.
 pub(crate) const UNWRITTEN: u64 = u64::MAX;
 
 /// The status of a call that is never refused by it.
