@@ -76,20 +76,21 @@ extern "C" {
 #define YASMUREKH_TAKEN 6u   /* take: 1 if the interrupt was pending, else 0; take of many: the bits taken */
 
 /* Refusals, in the order in which they are looked for; 2010 comes first. */
-#define YASMUREKH_REFUSAL_WINDOW 2001u       /* a window's start or length not whole pages, or its end above 2^56 */
-#define YASMUREKH_REFUSAL_OVERLAP 2011u      /* an address lies in both windows */
-#define YASMUREKH_REFUSAL_DIRECTORY 2002u    /* mode above 4, or root page number of 2^44 or more */
-#define YASMUREKH_REFUSAL_DEVICE 2003u       /* device_id of 2^24 or more */
-#define YASMUREKH_REFUSAL_PROCESS 2004u      /* process_id of 2^20 or more */
-#define YASMUREKH_REFUSAL_SUPERVISOR 2005u   /* supervisor without a process_id */
-#define YASMUREKH_REFUSAL_LENGTH 2006u       /* length 0, or past the end of the page */
-#define YASMUREKH_REFUSAL_FILE_OUTSIDE 2007u /* request: a storable message, its file in neither window */
-#define YASMUREKH_REFUSAL_FILE 2008u         /* both takes, report: no file of either window */
-#define YASMUREKH_REFUSAL_IDENTITY 2009u     /* take: identity above 2047 */
-#define YASMUREKH_REFUSAL_DOUBLEWORD 2009u   /* take of many: doubleword number above 31 */
-#define YASMUREKH_REFUSAL_NUMBER 2010u       /* request: unknown access or flag */
-#define YASMUREKH_REFUSAL_SOURCE 2014u       /* wire: source outside 1 to 63; the status of the call */
-#define YASMUREKH_REFUSAL_HART 2014u         /* claim, signal: hart above 15; the status of the call */
+#define YASMUREKH_REFUSAL_WINDOW 2001u           /* a window's start or length not whole pages, or its end above 2^56 */
+#define YASMUREKH_REFUSAL_OVERLAP 2011u          /* an address lies in both windows */
+#define YASMUREKH_REFUSAL_DIRECTORY 2002u        /* mode above 4, or root page number of 2^44 or more */
+#define YASMUREKH_REFUSAL_DEVICE 2003u           /* device_id of 2^24 or more */
+#define YASMUREKH_REFUSAL_PROCESS 2004u          /* process_id of 2^20 or more */
+#define YASMUREKH_REFUSAL_SUPERVISOR 2005u       /* supervisor without a process_id */
+#define YASMUREKH_REFUSAL_LENGTH 2006u           /* length 0, or past the end of the page */
+#define YASMUREKH_REFUSAL_FILE_OUTSIDE 2007u     /* request: a storable message, its file in neither window */
+#define YASMUREKH_REFUSAL_FILE_OVER_TABLES 2012u /* request: its file in the page of its context or message entry */
+#define YASMUREKH_REFUSAL_FILE 2008u             /* both takes, report: no file of either window */
+#define YASMUREKH_REFUSAL_IDENTITY 2009u         /* take: identity above 2047 */
+#define YASMUREKH_REFUSAL_DOUBLEWORD 2009u       /* take of many: doubleword number above 31 */
+#define YASMUREKH_REFUSAL_NUMBER 2010u           /* request: unknown access or flag */
+#define YASMUREKH_REFUSAL_SOURCE 2014u           /* wire: source outside 1 to 63; the status of the call */
+#define YASMUREKH_REFUSAL_HART 2014u             /* claim, signal: hart above 15; the status of the call */
 
 /* Fault causes, as the IOMMU specification numbers them. */
 #define YASMUREKH_CAUSE_INSTRUCTION_ACCESS 1u
@@ -153,6 +154,11 @@ extern "C" {
  * directory. `process` counts only with YASMUREKH_PROCESS_GIVEN in `flags`. `value`
  * is the data of a 4-byte write, its four bytes read little-endian; no other access
  * uses it.
+ *
+ * A message that would be stored is refused where its file is in neither window (2007),
+ * and where its file lies in the 4 KiB page that holds the device context or the message
+ * entry of this request (2012). No other page counts: to keep files out of the pages of
+ * other tables is the caller's part. What stores nothing is discarded before that.
  *
  * Lent: both windows and `out`. Changed: the first five words of `out`, and, where
  * the answer is YASMUREKH_STORED, the one byte of the one window that holds the
