@@ -287,6 +287,9 @@ pub enum Refusal {
     Length,
     /// 2007: the message would be stored, and its file is in neither window.
     FileOutside,
+    /// 2012: the message would be stored, and its file lies in the 4 KiB page that holds the request's
+    /// device context or its message entry. No other page counts.
+    FileOverTables,
     /// 2008: either take, or report: the file's address is no multiple of 512, or it is in neither window.
     File,
     /// 2009: take: the identity is above 2,047.
@@ -301,7 +304,7 @@ pub enum Refusal {
 
 impl Refusal {
     /// All refusals, in the order of the variants.
-    pub const ALL: [Refusal; 13] = [
+    pub const ALL: [Refusal; 14] = [
         Refusal::Window,
         Refusal::Overlap,
         Refusal::Directory,
@@ -310,6 +313,7 @@ impl Refusal {
         Refusal::Supervisor,
         Refusal::Length,
         Refusal::FileOutside,
+        Refusal::FileOverTables,
         Refusal::File,
         Refusal::Identity,
         Refusal::Doubleword,
@@ -329,6 +333,7 @@ impl Refusal {
             2008 => Refusal::File,
             2009 => Refusal::Identity,
             2011 => Refusal::Overlap,
+            2012 => Refusal::FileOverTables,
             2014 => Refusal::Source,
             _ => another_version("refusal", number),
         }
@@ -345,6 +350,7 @@ impl Refusal {
             Refusal::Supervisor => 2005,
             Refusal::Length => 2006,
             Refusal::FileOutside => 2007,
+            Refusal::FileOverTables => 2012,
             Refusal::File => 2008,
             Refusal::Identity | Refusal::Doubleword => 2009,
             Refusal::Source | Refusal::Hart => 2014,
@@ -363,6 +369,9 @@ impl fmt::Display for Refusal {
             Refusal::Supervisor => "supervisor without a process_id",
             Refusal::Length => "the access is empty or leaves its page",
             Refusal::FileOutside => "the message's file is in neither window",
+            Refusal::FileOverTables => {
+                "the message's file is in the page of its device context or message entry"
+            }
             Refusal::File => "no interrupt file of either window is at that address",
             Refusal::Identity => "the identity is above 2,047",
             Refusal::Doubleword => "the doubleword number is above 31",
@@ -482,7 +491,7 @@ mod tests {
     }
 
     /// An answer of each kind, by its words.
-    fn known() -> [([u64; 5], Answer); 7] {
+    fn known() -> [([u64; 5], Answer); 8] {
         let fault = Fault {
             cause: 13,
             stage: Stage::First,
@@ -499,6 +508,7 @@ mod tests {
             ([4, 13, 0, 0, 2], Answer::Fault(fault)),
             ([5, 2006, 0, 0, 0], Answer::Refused(Refusal::Length)),
             ([5, 2011, 0, 0, 0], Answer::Refused(Refusal::Overlap)),
+            ([5, 2012, 0, 0, 0], Answer::Refused(Refusal::FileOverTables)),
         ]
     }
 
@@ -522,11 +532,28 @@ mod tests {
             [4, 13, 0, 0, 5],
             [4, 13, 1, 0, 2],
             [5, 2010, 0, 0, 0],
-            [5, 2012, 0, 0, 0],
+            [5, 2013, 0, 0, 0],
             [5, 2011, 0, 0, 1],
+            [5, 2012, 0, 0, 1],
+            [5, 2012, 1, 0, 0],
             [5, 2006, 0, 0, 1],
         ] {
             refuses(move || Answer::from_words(words));
+        }
+    }
+
+    /// A number leads back to its refusal; of two that share one, to the first.
+    #[test]
+    fn a_refusal_by_its_number() {
+        for refusal in Refusal::ALL {
+            let number = refusal.number();
+            let first = Refusal::ALL.into_iter().find(|it| it.number() == number);
+            assert_eq!(Some(Refusal::from_number(number)), first);
+        }
+        assert!(Refusal::ALL.windows(2).all(|pair| pair[0] < pair[1]));
+        let named = |number| Refusal::ALL.iter().any(|it| it.number() == number);
+        for number in (1999..2020).filter(|number| !named(*number)) {
+            refuses(move || Refusal::from_number(number));
         }
     }
 

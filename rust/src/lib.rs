@@ -98,7 +98,9 @@ pub use request::{Access, Mode, Privilege, Request, Settings};
 /// other answer, and anywhere else, no byte changes. The answer is computed from the bytes before the
 /// call.
 ///
-/// The checks that refuse a request stand in the order of [`Refusal`]'s variants.
+/// The checks that refuse a request stand in the order of [`Refusal`]'s variants. The last two,
+/// [`Refusal::FileOutside`] and [`Refusal::FileOverTables`], ask about the file of a message that would
+/// be stored; what stores nothing is discarded before them.
 ///
 /// ```
 /// use yasmurekh::{request, Answer, Memory, Mode, Request, Settings};

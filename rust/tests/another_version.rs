@@ -164,6 +164,16 @@ fn unwritten_words_panic() {
     }
 }
 
+/// A refusal that this crate names is handed out; 2013 has no name here.
+#[test]
+fn a_request_is_refused_by_a_number_that_is_known() {
+    let output = call("request", 0, &["5", "2012", "0", "0", "0"]);
+    let text = String::from_utf8_lossy(&output.stdout);
+    assert!(text.starts_with("refused (2012): "), "{output:?}");
+    panics("request", 0, &["5", "2013", "0", "0", "0"]);
+    panics("request", 0, &["5", "2012", "0", "0", "1"]);
+}
+
 /// The mask of the example's take of many is 255.
 #[test]
 fn a_take_many_is_believed_within_its_mask() {
@@ -197,6 +207,8 @@ fn the_inline_functions_hand_back_the_words() {
     for name in ["request", "take", "take_many"] {
         assert_eq!(handed(name, 0, &words), "4 13 7 8 2");
     }
+    let refused = ["5", "2012", "0", "0", "0"];
+    assert_eq!(handed("request", 0, &refused), "5 2012 0 0 0");
     let mut words = ["0"; 66];
     (words[1], words[2], words[65]) = ("3", "7", "9");
     assert_eq!(handed("report", 0, &words), "0 3 16");

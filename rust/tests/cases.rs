@@ -252,9 +252,9 @@ fn four_levels_on_five() {
     }
 }
 
-/// A request that breaks every rule, mended rule by rule: each refusal comes in its turn.
-#[test]
-fn refusals_in_order() {
+/// A request that breaks every rule, mended rule by rule: each refusal comes in its turn, and last of all
+/// the one by the file that the message entry names.
+fn refused_in_order(entry: u64, last: Refusal) {
     let mut settings = Settings {
         mode: Mode(5),
         root: 1 << 44,
@@ -266,7 +266,7 @@ fn refusals_in_order() {
         length: 0,
         ..Request::message(0, 0x8000_6000, 37)
     };
-    let mut window = layout([0x2000_0003, STORE[1]]); // a file at 2^31, outside the window
+    let mut window = layout([entry, STORE[1]]);
     let lent = window.clone();
     let mut next = |start: u64, settings: &Settings, asked: &Request| match request(
         &mut Memory::one(start, &mut window),
@@ -291,11 +291,19 @@ fn refusals_in_order() {
     asked.length = 4097;
     assert_eq!(next(START, &settings, &asked), Some(Refusal::Length));
     asked.length = 4;
-    assert_eq!(next(START, &settings, &asked), Some(Refusal::FileOutside));
+    assert_eq!(next(START, &settings, &asked), Some(last));
     asked.data = 2048; // nothing to store: discarded before the file is looked at
     let answer = request(&mut one(&mut window), &settings, &asked);
     assert_eq!(answer, Answer::Discarded);
     assert_eq!(window, lent);
+}
+
+#[test]
+fn refusals_in_order() {
+    // A file at 2^31, outside the window; in the context's page, then in the message entry's.
+    refused_in_order(0x2000_0003, Refusal::FileOutside);
+    refused_in_order(0x1000_0083, Refusal::FileOverTables);
+    refused_in_order(0x1000_0883, Refusal::FileOverTables);
 }
 
 #[test]
@@ -400,14 +408,18 @@ fn an_empty_window_and_one_at_the_top() {
 #[test]
 fn numbers_and_words() {
     let numbers = Refusal::ALL.iter().map(|refusal| refusal.number());
-    let checked = [2001, 2011].into_iter().chain(2002..=2009);
-    assert!(numbers.eq(checked.chain([2009, 2014, 2014])));
+    let checked = [2001, 2011].into_iter().chain(2002..=2007);
+    assert!(numbers.eq(checked.chain([2012, 2008, 2009, 2009, 2014, 2014])));
     for (place, stage) in Stage::ALL.iter().enumerate() {
         assert_eq!(stage.number(), place as u64);
     }
     assert_eq!(
         Refusal::File.to_string(),
         "refused (2008): no interrupt file of either window is at that address"
+    );
+    assert_eq!(
+        Refusal::FileOverTables.to_string(),
+        "refused (2012): the message's file is in the page of its device context or message entry"
     );
     assert_eq!(
         Refusal::Doubleword.to_string(),
