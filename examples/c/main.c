@@ -1,8 +1,8 @@
 /*
  * A small use of Yasmurekh from C: tables on chip and interrupt files in main memory, a
  * window each; a translation under both stages, a message, its take, a take of many at
- * once, refusals and faults; a fan that signals by wire; and the same fan at a controller
- * without message files.
+ * once, refusals and faults, files over tables; a fan that signals by wire; and the same
+ * fan at a controller without message files.
  */
 #include <inttypes.h>
 #include <stdio.h>
@@ -10,7 +10,7 @@
 
 #include "yasmurekh.h"
 
-/* The tables: eleven pages on chip. */
+/* The tables: twelve pages on chip, one of them with files. */
 #define CHIP UINT64_C(0x10000000)
 #define SECOND_ROOT (CHIP + 0x0000) /* four pages, on 16 KiB */
 #define SECOND_1 (CHIP + 0x4000)
@@ -19,7 +19,8 @@
 #define FIRST_1 (CHIP + 0x7000)
 #define FIRST_0 (CHIP + 0x8000)
 #define DIRECTORY (CHIP + 0x9000)
-#define MESSAGES (CHIP + 0xA000)
+#define CHIP_FILES (CHIP + 0xA000)
+#define MESSAGES (CHIP + 0xB000)
 
 /* The interrupt files: a page of main memory, eight files. */
 #define MAIN UINT64_C(0x40000000)
@@ -35,7 +36,7 @@
 
 #define DEVICE 1u
 
-static uint8_t tables[11 * 4096];
+static uint8_t tables[12 * 4096];
 static uint8_t files[4096];
 
 static const struct yasmurekh_memory memory = {
@@ -73,6 +74,12 @@ static void map_guest(unsigned n, uint64_t page)
     put(SECOND_0 + 8 * n, entry(page, USER));
 }
 
+/* Message entry 2, mode MRIF: the file at a physical address. */
+static void store_in(uint64_t file)
+{
+    put(MESSAGES + 16 * 2, file >> 9 << 7 | 3);
+}
+
 static void lay_out(void)
 {
     uint64_t context = DIRECTORY + 64 * DEVICE;
@@ -100,8 +107,8 @@ static void lay_out(void)
     put(FIRST_0 + 8 * 2, entry(GUEST_FILES + 0x2000, USER));  /* file number 2 */
     put(FIRST_0 + 8 * 4, entry(GUEST_MEMORY + 0x6000, USER)); /* not in the second stage */
 
-    /* Message entry 2, mode MRIF: the file, then notice 1029 (bit 10 at bit 60). */
-    put(MESSAGES + 16 * 2, FILE_1 >> 9 << 7 | 3);
+    /* Message entry 2: the file, then notice 1029 (bit 10 at bit 60). */
+    store_in(FILE_1);
     put(MESSAGES + 16 * 2 + 8, UINT64_C(1) << 60 | entry(NOTICES, 5));
 }
 
@@ -203,6 +210,20 @@ static void many(void)
     take_many("take of many, 2048 to 2111", YASMUREKH_FILE_PAIRS, UINT64_MAX);
 }
 
+/* A file in a page with the message's own tables, and one in the page between them. */
+static void over_tables(void)
+{
+    store_in(DIRECTORY + 0x200);
+    request("write of 39, file in the context's page", DEVICE, YASMUREKH_WRITE, 0x2000, 4, 39);
+    request("write of 2048, file in the context's page", DEVICE, YASMUREKH_WRITE, 0x2000, 4, 2048);
+    store_in(MESSAGES + 0x200);
+    request("write of 39, file in the entry's page", DEVICE, YASMUREKH_WRITE, 0x2000, 4, 39);
+    store_in(CHIP_FILES + 0x200);
+    request("write of 39, file in the page between", DEVICE, YASMUREKH_WRITE, 0x2000, 4, 39);
+    take("take of 39 from there", CHIP_FILES + 0x200, 39);
+    store_in(FILE_1);
+}
+
 /* A write of 38 to file 2, a read of the buffer and a take, over other windows. */
 static void over(const char *what, struct yasmurekh_window first, struct yasmurekh_window second)
 {
@@ -221,8 +242,8 @@ static void windows(void)
 {
     const struct yasmurekh_window none = {0, NULL, 0};
     const struct yasmurekh_window inside = {CHIP + 0x1000, NULL, 0};
-    const struct yasmurekh_window on_tables = {CHIP + 0xA000, files, sizeof files};
-    const struct yasmurekh_window beside_tables = {CHIP + 0xB000, files, sizeof files};
+    const struct yasmurekh_window on_tables = {CHIP + 0xB000, files, sizeof files};
+    const struct yasmurekh_window beside_tables = {CHIP + 0xC000, files, sizeof files};
     const struct yasmurekh_window odd = {MAIN + 0x200, files, sizeof files};
 
     over("the windows in the other order", memory.second, memory.first);
@@ -428,6 +449,7 @@ int main(void)
     request("read-for-execute of file 2", DEVICE, YASMUREKH_READ_FOR_EXECUTE, 0x2000, 4, 0);
     request("read by device 2", 2, YASMUREKH_READ, 0x1234, 8, 0);
     request("an access numbered 3", DEVICE, 3, 0x1234, 8, 0);
+    over_tables();
     windows();
     raw();
     printf("tables after all: %s\n", memcmp(tables_before, tables, sizeof tables) ? "changed" : "unchanged");
