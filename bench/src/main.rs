@@ -185,7 +185,7 @@ fn measure_before(effort: &Effort, text: &str) -> Result<(), String> {
     }
     println!("\nRatios of rates, medians of {} rounds.", effort.rounds);
     println!("Not served: the earlier library takes the row's contexts for misconfigured.");
-    println!("No take of many: the earlier library has none.");
+    println!("No take of many, no refusal 2012: the earlier library has none.");
     Ok(())
 }
 

@@ -142,7 +142,7 @@ fn compare_two(row: &Row, ours: Side, theirs: Side) -> Result<(), String> {
 
 /// Why an earlier library can't run a row, if it can't: it has one window and the row two; or it has no
 /// take of many; or it takes the row's contexts for misconfigured (259), since a mode or a mask came after
-/// it. No row asks for that fault.
+/// it, a fault that no row asks for; or it stores where the row asks for refusal 2012.
 pub fn unknown(row: &Row, side: Side) -> Option<&'static str> {
     let mut memory = row.world.memory();
     if cfg!(before_windows = "one") && !memory.second.bytes.is_empty() {
@@ -152,6 +152,9 @@ pub fn unknown(row: &Row, side: Side) -> Option<&'static str> {
         return Some("no take of many");
     }
     let first = (side.once)(row.kind, &mut memory, &row.world.settings, &row.calls[0]);
+    if first[0] == 2 && row.number == Some(2012) {
+        return Some("stored: no refusal 2012");
+    }
     (first[..2] == [4, 259]).then_some("not served: fault 259")
 }
 

@@ -403,6 +403,7 @@ fn answer(memory: &mut Memory, request: &Request, found: Result<Found, Fault>) -
         Ok(Found::Translated(address)) => Answer::Translated(address),
         Ok(Found::Redirected(address)) => Answer::Redirected(address),
         Ok(Found::Record(first, second)) => record(memory, request, first, second),
+        Ok(Found::OverTables) => over_tables(request),
         Err(fault) => Answer::Fault {
             cause: fault & 0xFFFF_FFFF,
             stage: STAGES[(fault >> 32 & 7) as usize % 5],
@@ -533,6 +534,8 @@ enum Found {
     Translated(u64),
     Redirected(u64),
     Record(u64, u64),
+    /// A record whose file lies in the page of the context or of its entry.
+    OverTables,
 }
 
 #[inline]
@@ -543,8 +546,8 @@ fn translate(memory: impl Tabled, mode: u64, root: u64, request: &Request) -> Re
         }
         return untranslated(request);
     }
-    let [tc, iohgatp, _, fsc, msiptp, mask, pattern, _] =
-        device_context(memory, mode - 1, root << 12, request.device)?;
+    let (page, context) = device_context(memory, mode - 1, root << 12, request.device)?;
+    let [tc, iohgatp, _, fsc, msiptp, mask, pattern, _] = context;
     let second = (iohgatp >> 60 != 0).then_some(Tables::of(iohgatp));
     let first = if tc & PDTV == 0 {
         if request.process.is_some() {
@@ -566,7 +569,7 @@ fn translate(memory: impl Tabled, mode: u64, root: u64, request: &Request) -> Re
         return Ok(Found::Translated(address));
     };
     if msiptp >> 60 != 0 && (address >> 12 ^ pattern) & !mask == 0 {
-        return message(memory, msiptp, mask, address, request.access);
+        return message(memory, page, msiptp, mask, address, request.access);
     }
     match memory.second_stage(second, address, needs(request.access)) {
         Ok(address) => Ok(Found::Translated(address)),
@@ -613,13 +616,14 @@ fn non_leaf(entry: u64, invalid: Fault, misconfigured: Fault) -> Result<u64, Fau
     Ok((entry ^ V) << 2)
 }
 
+/// The page of a device's context, and the context.
 #[inline]
 fn device_context(
     memory: impl Tabled,
     levels: u64,
     root: u64,
     device: u64,
-) -> Result<[u64; 8], Fault> {
+) -> Result<(u64, [u64; 8]), Fault> {
     let mut table = root;
     match levels {
         1 if device >> 6 != 0 => return Err(DISALLOWED),
@@ -643,7 +647,7 @@ fn device_context(
     if misconfigured(&context) {
         return Err(DDT_MISCONFIGURED);
     }
-    Ok(context)
+    Ok((table, context))
 }
 
 #[inline]
@@ -779,10 +783,11 @@ fn pack(value: u64, mask: u64) -> u64 {
     packed
 }
 
-/// A message, by its table.
+/// A message, by its table; the page is that of the device's context.
 #[inline]
 fn message(
     memory: impl Tabled,
+    page: u64,
     msiptp: u64,
     mask: u64,
     address: u64,
@@ -802,7 +807,13 @@ fn message(
             Found::Redirected((first >> 10 & PAGE_NUMBER) << 12 | address & 0xFFF)
         }
         1 if first & (HIGH | 0x78) | second & (HIGH & !(1 << 60)) == 0 => {
-            Found::Record(first, second)
+            // The file's address, save for bits below its page.
+            let file = first << 2;
+            if file ^ page < 4_096 || file ^ place < 4_096 {
+                Found::OverTables
+            } else {
+                Found::Record(first, second)
+            }
         }
         _ => return Err(MSI_MISCONFIGURED),
     };
@@ -812,17 +823,33 @@ fn message(
     Ok(found)
 }
 
-/// A message under an MRIF entry: stored, discarded or refused.
-#[inline]
-fn record(memory: &mut Memory, request: &Request, first: u64, second: u64) -> Answer {
+/// The identity that a message stores, if it stores one.
+#[inline(always)]
+fn identity_of(request: &Request) -> Option<u64> {
     let identity = match request.address % 4_096 {
         0 => u64::from(request.value),
         4 => u64::from(request.value.swap_bytes()),
-        _ => return Answer::Discarded,
+        _ => return None,
     };
-    if request.access != Access::Write || request.length != 4 || identity > 2_047 {
-        return Answer::Discarded;
+    (request.access == Access::Write && request.length == 4 && identity <= 2_047)
+        .then_some(identity)
+}
+
+/// A message whose file lies in the page of the context or of its entry: so it lies in a window.
+#[inline]
+fn over_tables(request: &Request) -> Answer {
+    match identity_of(request) {
+        Some(_) => Answer::Refused(2012),
+        None => Answer::Discarded,
     }
+}
+
+/// A message under an MRIF entry: stored, discarded or refused.
+#[inline]
+fn record(memory: &mut Memory, request: &Request, first: u64, second: u64) -> Answer {
+    let Some(identity) = identity_of(request) else {
+        return Answer::Discarded;
+    };
     let file = (first >> 7 & ((1 << 47) - 1)) << 9;
     let bytes = bytes_from(memory, file);
     let Some(byte) = bytes.and_then(|bytes| bytes.get_mut(byte_of(identity))) else {

@@ -2,7 +2,9 @@
 
 use crate::call::{Call, PROCESS_GIVEN, SUPERVISOR};
 use crate::plain::Access;
-use crate::tables::{device_data, guest_data, process_id, size, Places, Plan, World, MESSAGES};
+use crate::tables::{
+    device_data, guest_data, process_id, size, storing, Places, Plan, World, MESSAGES,
+};
 use yasmurekh_reference::random::Random;
 
 /// What a row's calls are.
@@ -124,10 +126,11 @@ fn messages(name: &str, mask: u64, first: Option<u32>, places: Places) -> Row {
     row
 }
 
-/// Changes every message entry of a row.
-fn change_entries(row: &mut Row, first: u64) {
+/// Changes every message entry of a row, to a first doubleword by the page of its device's context.
+fn change_entries(row: &mut Row, first: impl Fn(u64) -> u64) {
     // The tables of 2^4 entries begin at their own pages.
     for device in row.world.devices.clone() {
+        let first = first(row.world.context_page(device));
         let table = row.world.message_table(device);
         for number in 0..16 {
             row.world.put(table + 16 * number, first);
@@ -140,7 +143,7 @@ const FOUR_ONES: u64 = 0xF;
 fn redirected() -> Row {
     let name = "redirected message, both stages";
     let mut row = messages(name, FOUR_ONES, Some(0), Places::First);
-    change_entries(&mut row, 0xA00_0407);
+    change_entries(&mut row, |_| 0xA00_0407);
     row.answers = &[1];
     row
 }
@@ -148,7 +151,7 @@ fn redirected() -> Row {
 fn message_fault() -> Row {
     let name = "fault: message table (262)";
     let mut row = messages(name, FOUR_ONES, Some(0), Places::First);
-    change_entries(&mut row, 2);
+    change_entries(&mut row, |_| 2);
     row.answers = &[4];
     row.number = Some(262);
     row
@@ -162,9 +165,18 @@ fn stored(places: Places) -> Row {
 fn file_outside(places: Places) -> Row {
     let name = "refusal 2007: file outside the windows, last of all";
     let mut row = messages(name, FOUR_ONES, Some(0), places);
-    change_entries(&mut row, 0x1000_0000 >> 2 | 3);
+    change_entries(&mut row, |_| storing(0x1000_0000));
     row.answers = &[5];
     row.number = Some(2007);
+    row
+}
+
+fn file_over_context() -> Row {
+    let name = "refusal 2012: file over its device context, last of all";
+    let mut row = messages(name, FOUR_ONES, Some(0), Places::First);
+    change_entries(&mut row, storing);
+    row.answers = &[5];
+    row.number = Some(2012);
     row
 }
 
@@ -397,7 +409,12 @@ pub fn main_rows() -> Vec<Row> {
         stored(first),
     ]);
     rows.extend(masks());
-    rows.extend([redirected(), refusals(), file_outside(first)]);
+    rows.extend([
+        redirected(),
+        refusals(),
+        file_outside(first),
+        file_over_context(),
+    ]);
     rows.append(&mut faults());
     rows.push(takes(first));
     rows.push(takes_of_many(first));

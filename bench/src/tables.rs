@@ -129,6 +129,11 @@ fn entry(page: u64, flags: u64) -> u64 {
     (page >> 12) << 10 | flags
 }
 
+/// The first doubleword of a message entry that stores in a file.
+pub fn storing(file: u64) -> u64 {
+    file >> 9 << 7 | 3
+}
+
 fn root(mode: u64, page: u64) -> u64 {
     mode << 60 | page >> 12
 }
@@ -363,7 +368,7 @@ impl World {
         for number in 0..count {
             let file = self.files[number as usize % 8];
             let place = page + 16 * number;
-            self.put(place, file >> 9 << 7 | 3);
+            self.put(place, storing(file));
             self.put(place + 8, entry(0x2800_0000 + number * 4_096, 5) | 1 << 60);
             let guest_page = deposit(first + number, mask) | PATTERN & !mask;
             self.message_pages.push(guest_page << 12);
@@ -392,10 +397,20 @@ impl World {
 }
 
 impl World {
+    /// The address of a device's context.
+    fn context_of(&mut self, device: u32) -> u64 {
+        let directory = self.settings.root << 12;
+        self.context(directory, u64::from(device))
+    }
+
+    /// The page that holds a device's context.
+    pub fn context_page(&mut self, device: u32) -> u64 {
+        self.context_of(device) & !0xFFF
+    }
+
     /// The address of a device's message table.
     pub fn message_table(&mut self, device: u32) -> u64 {
-        let directory = self.settings.root << 12;
-        let context = self.context(directory, u64::from(device));
+        let context = self.context_of(device);
         (self.get(context + 32) & ((1 << 44) - 1)) << 12
     }
 }
