@@ -55,10 +55,11 @@ deviceMisconfigured c =
     ∷ (bareOf (c .iohgatp) && not (bareOf (c .msiptp)))
     ∷ [])
 
--- what a context that passes them says. Message recognition asks: "msiptp.MODE != Off"
-abbrev pub decodedOf : DeviceContext → DecodedContext
-decodedOf c =
+-- what a context that passes them says, at its address. Message recognition asks: "msiptp.MODE != Off"
+abbrev pub decodedOf : ℕ → DeviceContext → DecodedContext
+decodedOf address c =
     record {
+      address = address;
       second = secondTable (c .iohgatp);
       messages = not (bareOf (c .msiptp));
       page = rootPageOf (c .msiptp);

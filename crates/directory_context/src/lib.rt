@@ -19,8 +19,9 @@ pub struct DeviceContext {
     pub reserved: u64,
 }
 
-// What a device context that passes its checks says.
+// What a device context that passes its checks says, and where it lies.
 pub struct DecodedContext {
+    pub address: u64,
     // iohgatp.
     pub second: PageTable,
     // msiptp: whether there is a message table, and its page.
@@ -98,13 +99,14 @@ pub fn device_misconfigured(c: DeviceContext) -> bool
     control_reserved(c) | table_reserved(c) | first_wrong(c) | second_wrong(c)
 }
 
-// What a context says, once for all that ask.
-pub fn decode(c: DeviceContext) -> DecodedContext
+// What the context at an address says, once for all that ask.
+pub fn decode(address: u64, c: DeviceContext) -> DecodedContext
     requires { ⌜ c .mask < 2 ^ 52 ⌝ }
-    ensures { λ r. ⌜ (r ≡ decodedOf c) × SoundContext r ⌝ }
+    ensures { λ r. ⌜ (r ≡ decodedOf address c) × SoundContext r ⌝ }
 {
     let second = directory_entry::second_table(c.iohgatp);
     DecodedContext {
+        address,
         second,
         messages: !directory_entry::bare(c.msiptp),
         page: directory_entry::root_page(c.msiptp),

@@ -36,12 +36,12 @@ use Rattle.directory_device.specs.Code.{Placed}
 use Rattle.directory_device.specs.Device.{checkedDevice, deviceWord, deviceContextAt, onDevicePlace, deviceContextOf}
 
 -- by the checks
-module _ (c : DeviceContext) (q : Bool) (hq : q ≡ deviceMisconfigured c) where
-  pub device-wrong : (f : FaultInfo) → q ≡ true → f ≡ misconfigured Device → Fault f ≡ checkedDevice c
-  device-wrong f r h = yes-by (deviceMisconfigured c) q (Fault f) (Fault (misconfigured Device)) (Context (decodedOf c)) hq r (ap Fault h)
+module _ (a : ℕ) (c : DeviceContext) (q : Bool) (hq : q ≡ deviceMisconfigured c) where
+  pub device-wrong : (f : FaultInfo) → q ≡ true → f ≡ misconfigured Device → Fault f ≡ checkedDevice a c
+  device-wrong f r h = yes-by (deviceMisconfigured c) q (Fault f) (Fault (misconfigured Device)) (Context (decodedOf a c)) hq r (ap Fault h)
 
-  pub device-right : (d : DecodedContext) → q ≡ false → d ≡ decodedOf c → Context d ≡ checkedDevice c
-  device-right d r h = no-by (deviceMisconfigured c) q (Context d) (Fault (misconfigured Device)) (Context (decodedOf c)) hq r (ap Context h)
+  pub device-right : (d : DecodedContext) → q ≡ false → d ≡ decodedOf a c → Context d ≡ checkedDevice a c
+  device-right d r h = no-by (deviceMisconfigured c) q (Context d) (Fault (misconfigured Device)) (Context (decodedOf a c)) hq r (ap Context h)
 
 pub ruleset device-checked-ways = (device-wrong, device-right)
 
@@ -50,7 +50,7 @@ module _ (a tc : ℕ) where
   abbrev read7 : ℕ → ℕ → ℕ → ℕ → ℕ → ℕ → ℕ → Walk DeviceFound
   read7 iohgatp ta fsc msiptp mask pattern reserved =
       done
-      (checkedDevice
+      (checkedDevice a
       (record { tc = tc; iohgatp = iohgatp; ta = ta; fsc = fsc; msiptp = msiptp; mask = mask; pattern = pattern; reserved = reserved }))
 
   abbrev read6 : ℕ → ℕ → ℕ → ℕ → ℕ → ℕ → Walk DeviceFound
@@ -126,7 +126,7 @@ module _ (starts : Starts) (xs ys : List ℕ) (paged : Paged starts (length xs) 
 
       pub entry-read : (c : DeviceContext) (x : DeviceFound) → not b ≡ false
           → c ≡ record { tc = tc; iohgatp = doubleword e 8; ta = doubleword e 16; fsc = doubleword e 24; msiptp = doubleword e 32; mask = doubleword e 40; pattern = doubleword e 48; reserved = doubleword e 56 }
-          → x ≡ checkedDevice c → x ≡ run m (deviceContextAt a)
+          → x ≡ checkedDevice a c → x ≡ run m (deviceContextAt a)
       entry-read c x t hc h =
           valid m a (Value tc) head tc refl b hb t
           (next 8 (omega arith) (read1 a tc)
@@ -135,7 +135,7 @@ module _ (starts : Starts) (xs ys : List ℕ) (paged : Paged starts (length xs) 
           (next 32 (omega arith) (read4 a tc (doubleword e 8) (doubleword e 16) (doubleword e 24))
           (next 40 (omega arith) (read5 a tc (doubleword e 8) (doubleword e 16) (doubleword e 24) (doubleword e 32))
           (next 48 (omega arith) (read6 a tc (doubleword e 8) (doubleword e 16) (doubleword e 24) (doubleword e 32) (doubleword e 40))
-          (next 56 (omega arith) (read7 a tc (doubleword e 8) (doubleword e 16) (doubleword e 24) (doubleword e 32) (doubleword e 40) (doubleword e 48)) (h ∙ ap checkedDevice hc))))))))
+          (next 56 (omega arith) (read7 a tc (doubleword e 8) (doubleword e 16) (doubleword e 24) (doubleword e 32) (doubleword e 40) (doubleword e 48)) (h ∙ ap (checkedDevice a) hc))))))))
 
 pub ruleset device-context-ways = (entry-unread, entry-invalid, entry-read)
 

@@ -13,8 +13,8 @@ use Rattle.directory_context.specs.Device.{deviceMisconfigured, decodedOf}
 use Rattle.directory_device.specs.declared.DeviceFound.{DeviceFound}
 use Rattle.directory_device.specs.declared.DeviceFound.the-variants.{Context, Fault}
 
-abbrev pub checkedDevice : DeviceContext → DeviceFound
-checkedDevice c = pick (deviceMisconfigured c) (Fault (misconfigured Device)) (Context (decodedOf c))
+abbrev pub checkedDevice : ℕ → DeviceContext → DeviceFound
+checkedDevice a c = pick (deviceMisconfigured c) (Fault (misconfigured Device)) (Context (decodedOf a c))
 
 abbrev pub deviceWord : ℕ → (ℕ → Walk DeviceFound) → Walk DeviceFound
 deviceWord a k = contextWord Device Fault a k
@@ -39,7 +39,7 @@ deviceContextAt a =
     deviceWord (a + 56)
     (λ reserved.
     done
-    (checkedDevice
+    (checkedDevice a
     (record { tc = tc; iohgatp = iohgatp; ta = ta; fsc = fsc; msiptp = msiptp; mask = mask; pattern = pattern; reserved = reserved }))))))))))
 
 abbrev pub onDevicePlace : Translation → Walk DeviceFound

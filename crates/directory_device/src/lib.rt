@@ -50,14 +50,14 @@ fn words_of(bytes: &[u8], tc: u64) -> DeviceContext
     }
 }
 
-// A context that was read, by its checks.
-fn checked_device(c: DeviceContext) -> DeviceFound
-    ensures { λ r. ⌜ (r ≡ checkedDevice c) × SoundFound r ⌝ }
+// A context that was read at an address, by its checks.
+fn checked_device(a: u64, c: DeviceContext) -> DeviceFound
+    ensures { λ r. ⌜ (r ≡ checkedDevice a c) × SoundFound r ⌝ }
 {
     if directory_context::device_misconfigured(c) {
         return DeviceFound::Fault(directory_entry::misconfigured(Tree::Device));
     }
-    DeviceFound::Context(directory_context::decode(c))
+    DeviceFound::Context(directory_context::decode(a, c))
 }
 
 // The context at an address: on whole pages it lies in one window or in none.
@@ -73,7 +73,7 @@ fn device_context_at<'a>(starts: Starts, first: &'a [u8], second: &'a [u8], a: u
     if !memory::bit(tc, 0) {
         return DeviceFound::Fault(directory_entry::invalid(Tree::Device));
     }
-    checked_device(words_of(entry, tc))
+    checked_device(a, words_of(entry, tc))
 }
 
 // From the root's page to where the context of a device lies. A loop of its own beside the process directory's, which asks the second stage at each step: this one has one caller and is inlined there.

@@ -1,6 +1,6 @@
 -- What becomes of what the tables say, by the tests that the code makes. Assumes nothing.
 use Prim.Native.Nat.{ℕ, _%_, _<_}
-use mathlib.Core.Bool.{Bool, true, false, _&&_, _||_}
+use mathlib.Core.Bool.{Bool, true, false, _&&_, _||_, not}
 use mathlib.Core.List.{List}
 use mathlib.Core.Path.{_≡_, refl, sym, ap, subst, _∙_}
 use native.Mathlib.Omega.{arith}
@@ -9,21 +9,20 @@ use lib.ListN.{length}
 use borrow.Author.Tests.{eq-eqb, ne-eqb, leb-true}
 use Rattle.memory.specs.declared.Starts.{Starts}
 use Rattle.memory.specs.Window.{lent, Leaves, memory}
-use Rattle.memory.specs.Choice.{pick}
+use Rattle.memory.specs.Choice.{pick, unlessRefused}
 use Rattle.memory.specs.Walk.{run}
-use Rattle.memory.proofs.Choices.{pick-same}
 use Rattle.causes.specs.declared.FaultInfo.{FaultInfo}
 use Rattle.interrupt_file.specs.File.{isFile, afterStore}
-use Rattle.message.specs.declared.Destination.{Destination}
 use Rattle.iommu_refusals.specs.declared.Settings.{Settings}
 use Rattle.iommu_refusals.specs.declared.DeviceRequest.{DeviceRequest}
+use Rattle.iommu_translation.specs.declared.Recording.{Recording}
 use Rattle.iommu_translation.specs.declared.Outcome.{Outcome}
 use Rattle.iommu_files.specs.declared.Answer.{Answer}
 use Rattle.iommu_files.specs.declared.Answer.the-variants.{Stored, Discarded, Refused}
 use Rattle.iommu_refusals.specs.Refusals.{isLentFile, requestRefusal}
 use Rattle.iommu_translation.specs.Translate.{translateOf}
 use Rattle.causes.specs.Causes.{isWrite}
-use Rattle.iommu.specs.Request.{reversed, identityOf, storableAs, finish, storedAt, storedBy, requestOf, afterRequest}
+use Rattle.iommu.specs.Request.{reversed, identityOf, storableAs, overTables, finish, storedAt, storedBy, requestOf, afterRequest}
 use Rattle.iommu_files.proofs.Answers.{answered}
 use Rattle.iommu_refusals.proofs.Bounds.{passed, stopped, accepted-mode, accepted-root, accepted-walkable}
 use Rattle.iommu.specs.Code.{storedIf}
@@ -64,23 +63,35 @@ storable-low q n = go (isWrite (q .access)) (eqb (q .length) 4) (eqb (q .address
     go false b c e h t = let z : _≡_ {A = ℕ} 0 1 = cc in omega arith
 
 -- a message to a file
-module _ (starts : Starts) (xs ys : List ℕ) (q : DeviceRequest) (value n : ℕ) (d : Destination) (s : Bool)
+module _ (starts : Starts) (xs ys : List ℕ) (q : DeviceRequest) (value n : ℕ) (r : Recording) (s : Bool)
     (hn : n ≡ identityOf q value) (hs : s ≡ storableAs q n) where
   abbrev ended : Answer
-  ended = finish starts (length xs) (length ys) q value (Outcome.Recorded d)
+  ended = finish starts (length xs) (length ys) q value (Outcome.Recorded r)
 
   pub record-discards : s ≡ false → Discarded ≡ ended
   unfolding finish
   record-discards t = simp (← hn, ← hs, t)
 
-  module _ (f : Bool) (t : s ≡ true) (hf : f ≡ isLentFile starts (length xs) (length ys) (d .file)) where
-    pub record-stores : f ≡ true → Stored d ≡ ended
-    unfolding finish
-    record-stores o = simp (← hn, ← hs, t, ← hf, o)
+  module _ (t : s ≡ true) where
+    abbrev held : Bool
+    held = isLentFile starts (length xs) (length ys) (r .destination .file)
 
-    pub record-outside : f ≡ false → Refused 2007 ≡ ended
+    pub record-outside : (f : Bool) → f ≡ held → f ≡ false → Refused 2007 ≡ ended
     unfolding finish
-    record-outside o = simp (← hn, ← hs, t, ← hf, o)
+    record-outside f hf o = simp (← hn, ← hs, t, ← hf, o)
+
+    module _ (over : Bool) (hover : over ≡ overTables r) where
+      pub record-over : (k : ℕ) → over ≡ true → k ≡ pick held 2012 2007 → Refused k ≡ ended
+      unfolding finish
+      record-over k o e = simp (← hn, ← hs, t, ← hover, o, e) (go held)
+        where
+          go : (f : Bool) → Refused (pick f 2012 2007) ≡ unlessRefused (pick (not f) 2007 2012) Refused (Stored (r .destination))
+          go true = refl
+          go false = refl
+
+      pub record-stores : (f : Bool) → f ≡ held → over ≡ false → f ≡ true → Stored (r .destination) ≡ ended
+      unfolding finish
+      record-stores f hf o h = simp (← hn, ← hs, t, ← hf, h, ← hover, o)
 
 -- what is left after a store of identity k, where j is the message's
 module _ (starts : Starts) (xs ys : List ℕ) (file k j : ℕ) (f : Bool) (us vs : List ℕ) (h : Leaves (storedIf f starts xs ys file k) us vs) where
@@ -130,7 +141,7 @@ of-number f k h e = ap f e ∙ h
 pub record-low : (q : DeviceRequest) (n : ℕ) (s : Bool) → s ≡ storableAs q n → s ≡ true → n < 2048
 record-low q n s h t = storable-low q n (sym h ∙ t)
 
-pub ruleset record-ways = (record-discards, record-stores, record-outside, stored-left, kept-left, unchanged, record-low)
+pub ruleset record-ways = (record-discards, record-over, record-stores, record-outside, stored-left, kept-left, unchanged, record-low)
 
 -- the whole request
 module _ (s : Settings) (xs ys : List ℕ) (q : DeviceRequest) (value r : ℕ) (hr : r ≡ requestRefusal s (length xs) (length ys) q) where
@@ -160,7 +171,7 @@ module _ (s : Settings) (xs ys : List ℕ) (q : DeviceRequest) (value r : ℕ) (
     unfolding requestOf
     request-finishes p (Answer.Translated k) e h = passed _ Refused _ _ (sym hr ∙ z) (rw (← ho, e, ← h) refl)
     request-finishes p (Answer.Redirected k) e h = passed _ Refused _ _ (sym hr ∙ z) (rw (← ho, e, ← h) refl)
-    request-finishes p (Stored n) e h = passed _ Refused _ _ (sym hr ∙ z) (rw (← ho, e, ← h) (search pick-same))
+    request-finishes p (Stored n) e h = passed _ Refused _ _ (sym hr ∙ z) (rw (← ho, e, ← h) refl)
     request-finishes p Discarded e h = passed _ Refused _ _ (sym hr ∙ z) (rw (← ho, e, ← h) refl)
     request-finishes p (Answer.Fault k) e h = passed _ Refused _ _ (sym hr ∙ z) (rw (← ho, e, ← h) refl)
     request-finishes p (Refused k) e h = passed _ Refused _ _ (sym hr ∙ z) (rw (← ho, e, ← h) refl)

@@ -1,11 +1,11 @@
 -- The whole request: the checks, the walk, and the finish; the answer, the bytes after, and the addresses read.
-use Prim.Native.Nat.{ℕ, _+_, _*_, _%_, _<_}
+use Prim.Native.Nat.{ℕ, _+_, _*_, _/_, _%_, _<_}
 use mathlib.Core.Path.{_≡_}
-use mathlib.Core.Bool.{Bool, true, _&&_, _||_}
+use mathlib.Core.Bool.{Bool, true, _&&_, _||_, not}
 use mathlib.Core.List.{List, [], _∷_}
 use lib.Dec.{eqb, leb}
 use lib.ListN.{length}
-use Rattle.memory.specs.Choice.{pick, unlessRefused}
+use Rattle.memory.specs.Choice.{pick, firstBad, unlessRefused}
 use Rattle.memory.specs.Bits.{bits}
 use Rattle.memory.specs.declared.Starts.{Starts}
 use Rattle.memory.specs.Window.{Window, Lent, lent, holds, byteAt, memory}
@@ -14,11 +14,12 @@ use Rattle.causes.specs.Causes.{isWrite}
 use Rattle.interrupt_file.specs.File.{afterStore}
 use Rattle.iommu_refusals.specs.declared.Settings.{Settings}
 use Rattle.iommu_refusals.specs.declared.DeviceRequest.{DeviceRequest}
+use Rattle.iommu_translation.specs.declared.Recording.{Recording}
 use Rattle.iommu_translation.specs.declared.Outcome.{Outcome}
 use Rattle.iommu_translation.specs.declared.Outcome.the-variants.{Recorded}
 use Rattle.iommu_files.specs.declared.Answer.{Answer}
 use Rattle.iommu_files.specs.declared.Answer.the-variants.{Translated, Redirected, Stored, Discarded, Fault, Refused, Taken}
-use Rattle.iommu_refusals.specs.Refusals.{isLentFile, requestRefusal}
+use Rattle.iommu_refusals.specs.Refusals.{check, isLentFile, requestRefusal}
 use Rattle.iommu_translation.specs.Translate.{translateOf}
 use Rattle.iommu_files.specs.Files.{changedAt}
 
@@ -39,12 +40,24 @@ storableAs q identity =
 abbrev pub storable : DeviceRequest → ℕ → Bool
 storable q d = storableAs q (identityOf q d)
 
--- the answer from what the tables say: "other accesses under M = 1 are discarded, before 2007 is looked at"; n and m are the windows' lengths
+-- two addresses in one 4 KiB page
+abbrev pub samePage : ℕ → ℕ → Bool
+samePage a b = eqb (a / 4096) (b / 4096)
+
+-- "its file lies in the 4 KiB page that holds the request's device context or its message entry" (02, Req 06)
+abbrev pub overTables : Recording → Bool
+overTables r = samePage (r .destination .file) (r .context) || samePage (r .destination .file) (r .entry)
+
+-- the checks of a store: "a storable message whose file is outside the window (last of all)"; "Refuse a store with 2012 .. This comes after 2007" (02, Req 06). n and m are the windows' lengths
+abbrev pub storeRefusal : Starts → ℕ → ℕ → Recording → ℕ
+storeRefusal starts n m r = firstBad (check 2007 (not (isLentFile starts n m (r .destination .file))) ∷ check 2012 (overTables r) ∷ [])
+
+-- the answer from what the tables say: "other accesses under M = 1 are discarded, before 2007 is looked at"
 unfoldable pub finish : Starts → ℕ → ℕ → DeviceRequest → ℕ → Outcome → Answer
 finish starts n m q d (Outcome.Translated a) = Translated a
 finish starts n m q d (Outcome.Redirected a) = Redirected a
 finish starts n m q d (Outcome.Fault f) = Fault f
-finish starts n m q d (Recorded e) = pick (storable q d) (pick (isLentFile starts n m (e .file)) (Stored e) (Refused 2007)) Discarded
+finish starts n m q d (Recorded r) = pick (storable q d) (unlessRefused (storeRefusal starts n m r) Refused (Stored (r .destination))) Discarded
 
 -- the answer to a request with its data value, on the bytes of both windows
 unfoldable pub requestOf : Settings → List ℕ → List ℕ → DeviceRequest → ℕ → Answer

@@ -3,8 +3,8 @@ use iommu_files::Answer;
 use iommu_refusals::DeviceRequest;
 use iommu_refusals::Settings;
 use iommu_translation::Outcome;
+use iommu_translation::Recording;
 use memory::Starts;
-use message::Destination;
 ghost use mathlib.Core.Path.{_≡_};
 ghost use mathlib.Core.Bool.{true};
 ghost use Prim.Native.Nat.{_+_, _%_, _^_, _≤_, _<_};
@@ -14,7 +14,7 @@ ghost use Rattle.memory.specs.Window.{Leaves};
 ghost use Rattle.memory.specs.Code.{Walkable};
 ghost use Rattle.interrupt_file.specs.File.{isFile, afterStore};
 ghost use Rattle.iommu_files.specs.Answers.{Answered};
-ghost use Rattle.iommu.specs.Request.{reversed as reversedOf, identityOf, storableAs, finish as finishOf, storedBy, requestOf, afterRequest};
+ghost use Rattle.iommu.specs.Request.{reversed as reversedOf, identityOf, storableAs, overTables, finish as finishOf, storedBy, requestOf, afterRequest};
 ghost use Rattle.iommu_refusals.specs.Refusals.{isLentFile};
 ghost use Rattle.iommu.specs.Code.{storedIf};
 
@@ -76,25 +76,54 @@ fn store_lent(starts: Starts, first: &mut [u8], second: &mut [u8], file: u64, n:
     store_in(starts.second, second, file, n)
 }
 
-// Records a message in its file, or says why not.
+// The refusals of a store, by number: a file in neither window, and one over tables.
+const OUTSIDE: u64 = 2007;
+
+const OVER_TABLES: u64 = 2012;
+
+// Whether a file lies in the page of the device context or of the message entry that lead to it.
+fn over_tables(r: Recording) -> bool
+    ensures { λ b. ⌜ b ≡ overTables r ⌝ }
+{
+    let page = r.destination.file / 4096;
+    (page == r.context / 4096) | (page == r.entry / 4096)
+}
+
+// The refusal of a store over tables, which comes after that of a file in neither window.
+fn over_refusal(starts: Starts, n: u64, m: u64, file: u64) -> u64
+    requires { ⌜ Walkable starts n m ⌝ }
+    ensures { λ r. ⌜ r ≡ pick (isLentFile starts n m file) 2012 2007 ⌝ }
+{
+    if iommu_refusals::is_lent_file(starts, n, m, file) {
+        return OVER_TABLES;
+    }
+    OUTSIDE
+}
+
+// Records a message in its file, or says why not. Whether it lies over tables is asked first, since it seldom does; 2007 still comes before 2012.
 fn record_message(
     starts: Starts,
     first: &mut [u8],
     second: &mut [u8],
     q: DeviceRequest,
     value: u32,
-    d: Destination,
+    r: Recording,
 ) -> Answer
     requires { ⌜ Walkable starts (length (now first)) (length (now second)) ⌝ }
-    ensures answer { λ r. ⌜ r ≡ finishOf starts (length (now (first .entry))) (length (now (second .entry))) q value (Outcome.Recorded d) ⌝ }
-    ensures bytes { λ r. ⌜ Leaves (storedBy starts (now (first .entry)) (now (second .entry)) q value r) (now (first .exit)) (now (second .exit)) ⌝ }
+    ensures answer { λ a. ⌜ a ≡ finishOf starts (length (now (first .entry))) (length (now (second .entry))) q value (Outcome.Recorded r) ⌝ }
+    ensures bytes { λ a. ⌜ Leaves (storedBy starts (now (first .entry)) (now (second .entry)) q value a) (now (first .exit)) (now (second .exit)) ⌝ }
 {
     let n = identity(q, value);
     if storable(q, n) {
+        let d = r.destination;
+        if over_tables(r) {
+            let number = over_refusal(starts, first.len() as u64, second.len() as u64, d.file);
+            return Answer::Refused(number);
+        }
         if store_lent(starts, first, second, d.file, n) {
             return Answer::Stored(d);
         }
-        return Answer::Refused(2007);
+        return Answer::Refused(OUTSIDE);
     }
     Answer::Discarded
 }
@@ -124,8 +153,8 @@ pub fn request(
             Outcome::Fault(f) => {
                 return Answer::Fault(f);
             }
-            Outcome::Recorded(d) => {
-                return record_message(starts, first, second, q, value, d);
+            Outcome::Recorded(r) => {
+                return record_message(starts, first, second, q, value, r);
             }
         }
     }

@@ -48,7 +48,7 @@ absent (Given p) = false
 abbrev pub badLength : ℕ → ℕ → Bool
 badLength address len = eqb len 0 || ltb 4096 (address % 4096 + len)
 
--- the checks of a request before any table is read; 2007 comes last of all, in `finish`
+-- the checks of a request before any table is read; 2007 and 2012 come last of all, in `finish`
 unfoldable pub requestRefusal : Settings → ℕ → ℕ → DeviceRequest → ℕ
 requestRefusal s n m q =
     firstBad

@@ -81,7 +81,7 @@ fn window_refusal(starts: Starts, n: u64, m: u64) -> u64
 }
 
 // Whether an address is that of a file that lies in either window.
-fn is_lent_file(starts: Starts, n: u64, m: u64, file: u64) -> bool
+pub fn is_lent_file(starts: Starts, n: u64, m: u64, file: u64) -> bool
     requires { ⌜ Walkable starts n m ⌝ }
     ensures { λ r. ⌜ r ≡ isLentFile starts n m file ⌝ }
 {

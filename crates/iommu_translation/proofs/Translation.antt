@@ -63,8 +63,8 @@ stopped-high x a c h e = simp (le-ltb a (2 ^ 56) h, e)
 pub ruleset untranslated-ways = (passed-low, stopped-high)
 
 -- by the case of a stage's answer
-pub told-is : (m n : Message) (o : Outcome) → m ≡ n → o ≡ onMessage n → o ≡ onMessage m
-told-is m n o e h = h ∙ sym (ap onMessage e)
+pub told-is : (k : ℕ) (m n : Message) (o : Outcome) → m ≡ n → o ≡ onMessage k n → o ≡ onMessage k m
+told-is k m n o e h = h ∙ sym (ap (onMessage k) e)
 
 pub reached-is : (t u : Translation) (o : Outcome) → t ≡ u → o ≡ onSecond u → o ≡ onSecond t
 reached-is t u o e h = h ∙ sym (ap onSecond e)
@@ -87,11 +87,11 @@ message-at c k a b v h t e = sym (ap (isMessage c) e) ∙ sym h ∙ t
 
 module _ (m : ℕ → Load) (c : DecodedContext) (x : Access) (a : ℕ) (o : Outcome) where
   -- by the message, so that whatever is done with one shows at its case
-  pub guest-message : isMessage c a ≡ true → (r : Message) → r ≡ run m (messageOf (c .page) (c .mask) x a) → o ≡ onMessage r → o ≡ run m (guestOf c x a)
+  pub guest-message : isMessage c a ≡ true → (r : Message) → r ≡ run m (messageOf (c .page) (c .mask) x a) → o ≡ onMessage (c .address) r → o ≡ run m (guestOf c x a)
   unfolding guestOf
   guest-message t (Message.Fault f) hr e = rw (t, run-bind, ← hr) e
   guest-message t (Message.Redirect b) hr e = rw (t, run-bind, ← hr) e
-  guest-message t (Message.Record d) hr e = rw (t, run-bind, ← hr) e
+  guest-message t (Message.Record d p) hr e = rw (t, run-bind, ← hr) e
 
   pub guest-second : isMessage c a ≡ false → (r : Translation) → r ≡ run m (secondStageOf (c .second) SecondStage x a) → o ≡ onSecond r → o ≡ run m (guestOf c x a)
   unfolding guestOf
@@ -145,9 +145,14 @@ module _ (m : ℕ → Load) (s : Settings) (q : DeviceRequest) (w : Bool) (hw : 
   device-wide v t e = simp (← hw, t, e)
 
   module _ (t : w ≡ false) (d : DeviceFound) (hd : d ≡ run m (deviceContextOf (s .mode - 1) (s .root) (q .device))) where
+    -- by what is found, so that whatever is done with it shows at its case
     located : {o : Outcome} → o ≡ run m (onDevice q d) → o ≡ run m (directoryOf s q)
     unfolding directoryOf
-    located e = then m (deviceContextOf (s .mode - 1) (s .root) (q .device)) (onDevice q) hd e ∙ simp (← hw, t)
+    located e = go d hd e
+      where
+        go : (k : DeviceFound) {o : Outcome} → k ≡ run m (deviceContextOf (s .mode - 1) (s .root) (q .device)) → o ≡ run m (onDevice q k) → o ≡ run m (directoryOf s q)
+        go (DeviceFound.Fault f) h e = rw (← hw, t, run-bind, ← h) e
+        go (Context c) h e = rw (← hw, t, run-bind, ← h) e
 
     pub device-fault : (k v : FaultInfo) → d ≡ DeviceFound.Fault k → ((f : FaultInfo) → d ≡ DeviceFound.Fault f → v ≡ f) → Fault v ≡ run m (directoryOf s q)
     device-fault k v e h = located (at m (onDevice q) e (ap Fault (h k e)))

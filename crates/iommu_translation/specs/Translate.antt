@@ -35,10 +35,11 @@ use Rattle.iommu_translation.specs.declared.Outcome.the-variants.{Transl
 unfoldable pub untranslated : Access → ℕ → Outcome
 untranslated x a = pick (ltb a (2 ^ 56)) (Translated a) (Fault (faultAt Directory (accessFault x)))
 
-abbrev pub onMessage : Message → Outcome
-onMessage (Message.Fault f) = Fault f
-onMessage (Redirect a) = Redirected a
-onMessage (Record d) = Recorded d
+-- a recorded message carries the addresses of its device context and of its message entry (02, Req 06)
+abbrev pub onMessage : ℕ → Message → Outcome
+onMessage context (Message.Fault f) = Fault f
+onMessage context (Redirect a) = Redirected a
+onMessage context (Record d entry) = Recorded (record { destination = d; context = context; entry = entry })
 
 abbrev pub onSecond : Translation → Outcome
 onSecond (Translation.Fault f) = Fault f
@@ -52,7 +53,7 @@ isMessage c a = c .messages && recognised (c .mask) (c .pattern) a
 unfoldable pub guestOf : DecodedContext → Access → ℕ → Walk Outcome
 guestOf c x a =
     pick (isMessage c a)
-    (bind (messageOf (c .page) (c .mask) x a) (λ m. done (onMessage m)))
+    (bind (messageOf (c .page) (c .mask) x a) (λ m. done (onMessage (c .address) m)))
     (bind (secondStageOf (c .second) SecondStage x a) (λ t. done (onSecond t)))
 
 abbrev pub onFirst : DecodedContext → Access → Translation → Walk Outcome

@@ -29,11 +29,18 @@ ghost use Rattle.paging_entry.specs.Entry.{pagesFor};
 ghost use Rattle.directory_context.specs.Code.{SoundContext};
 ghost use Rattle.iommu_translation.specs.Translate.{untranslated as untranslatedOf, onMessage, onSecond, isMessage, guestOf, stagesOf, onDevice, directoryOf, translateOf};
 
+// A message to be recorded: where, and the addresses of the device context and of the message entry that say so.
+pub struct Recording {
+    pub destination: Destination,
+    pub context: u64,
+    pub entry: u64,
+}
+
 // What the tables say of a request, before the store is looked at.
 pub enum Outcome {
     Translated(u64),
     Redirected(u64),
-    Recorded(Destination),
+    Recorded(Recording),
     Fault(FaultInfo),
 }
 
@@ -50,13 +57,18 @@ fn untranslated(x: Access, a: u64) -> Outcome
     })
 }
 
-fn on_message(m: Message) -> Outcome
-    ensures { λ r. ⌜ r ≡ onMessage m ⌝ }
+// What a message entry says, with the address of the device context that led to it.
+fn on_message(context: u64, m: Message) -> Outcome
+    ensures { λ r. ⌜ r ≡ onMessage context m ⌝ }
 {
     match m {
         Message::Fault(f) => Outcome::Fault(f),
         Message::Redirect(a) => Outcome::Redirected(a),
-        Message::Record(d) => Outcome::Recorded(d),
+        Message::Record(destination, entry) => Outcome::Recorded(Recording {
+            destination,
+            context,
+            entry,
+        }),
     }
 }
 
@@ -112,7 +124,8 @@ fn guest<'a>(
 {
     let x = q.access;
     if is_message(c, a) {
-        return on_message(message::message_of(c.page, c.mask, x, starts, first, second, a));
+        let m = message::message_of(c.page, c.mask, x, starts, first, second, a);
+        return on_message(c.address, m);
     }
     let g = c.second;
     on_second(second_stage(g, x, starts, first, second, a))

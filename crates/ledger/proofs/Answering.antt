@@ -14,40 +14,43 @@ use Rattle.memory.specs.Window.{Lent, memory}
 use Rattle.memory.specs.Walk.{run}
 use Rattle.message.specs.declared.Destination.{Destination}
 use Rattle.iommu_refusals.specs.declared.DeviceRequest.{DeviceRequest}
+use Rattle.iommu_translation.specs.declared.Recording.{Recording}
 use Rattle.iommu_translation.specs.declared.Outcome.{Outcome}
 use Rattle.iommu_files.specs.declared.Answer.{Answer}
 use Rattle.iommu_files.specs.declared.Answer.the-variants.{Translated, Redirected, Stored, Discarded, Fault, Refused, Taken}
 use Rattle.iommu_files.specs.Answers.{numbersOf}
 use Rattle.iommu_refusals.specs.Refusals.{badWindows, overlap, isLentFile, requestRefusal, takeManyRefusal}
 use Rattle.iommu_translation.specs.Translate.{translateOf}
-use Rattle.iommu.specs.Request.{identityOf, storable, finish, requestOf}
+use Rattle.iommu.specs.Request.{identityOf, storable, overTables, finish, requestOf}
 use Rattle.iommu_files.specs.Files.{pendingAt, answeredAt, takeOf, takeManyOf}
 use Rattle.iommu_files.proofs.Files.{take-made, many-made, same-refusal}
 use Rattle.iommu.proofs.Requests.{record-stores, record-low, request-finishes}
 use Rattle.iommu_files.specs.declared.Numbers.{Numbers}
 use Rattle.iommu.specs.Operations.{Op, request, take, takeMany, startsOf, settings, answerOf}
 use Rattle.ledger.specs.Ledger.{store, nothing, opEvent}
-use Rattle.ledger.specs.Closes.{Storing, takeRefused, takeManyRefused, noticesOf, noticeGiven}
+use Rattle.ledger.specs.Closes.{recording, Storing, takeRefused, takeManyRefused, noticesOf, noticeGiven}
 
 pub no-way : _≡_ {A = ℕ} 0 1 → ⊥
 no-way e = omega arith
 
 -- 3: stored, exactly when
 finish-stores : (starts : Starts) (n m : ℕ) (q : DeviceRequest) (value : ℕ) (d : Destination) (o : Outcome) → finish starts n m q value o ≡ Stored d
-    → (o ≡ Outcome.Recorded d) × (storable q value ≡ true) × (isLentFile starts n m (d .file) ≡ true)
+    → (r : Recording) × (o ≡ Outcome.Recorded r) × (r .destination ≡ d) × (storable q value ≡ true) × (isLentFile starts n m (r .destination .file) ≡ true) × (overTables r ≡ false)
 unfolding finish
 finish-stores starts n m q value d (Outcome.Translated a) e = absurd (no-way (cc))
 finish-stores starts n m q value d (Outcome.Redirected a) e = absurd (no-way (cc))
 finish-stores starts n m q value d (Outcome.Fault f) e = absurd (no-way (cc))
-finish-stores starts n m q value d (Outcome.Recorded r) e = go (storable q value) (isLentFile starts n m (r .file)) refl refl e
+finish-stores starts n m q value d (Outcome.Recorded r) e =
+    let g = go (storable q value) (isLentFile starts n m (r .destination .file)) (overTables r) refl refl refl e in
+    (r, refl, g .0, g .1, g .2, g .3)
   where
-    go : (s f : Bool) → storable q value ≡ s → isLentFile starts n m (r .file) ≡ f → pick s (pick f (Stored r) (Refused 2007)) Discarded ≡ Stored d
-        → (Outcome.Recorded r ≡ Outcome.Recorded d) × (storable q value ≡ true) × (isLentFile starts n m (d .file) ≡ true)
-    go true true h k z =
-        let w : r ≡ d = cc in
-        (ap Outcome.Recorded w, h, (rw w at k))
-    go true false h k z = absurd (no-way (cc))
-    go false f h k z = absurd (no-way (cc))
+    go : (s f v : Bool) → storable q value ≡ s → isLentFile starts n m (r .destination .file) ≡ f → overTables r ≡ v
+        → pick s (unlessRefused (pick (not f) 2007 (pick v 2012 0)) Refused (Stored (r .destination))) Discarded ≡ Stored d
+        → (r .destination ≡ d) × (storable q value ≡ true) × (isLentFile starts n m (r .destination .file) ≡ true) × (overTables r ≡ false)
+    go true true false h k o z = (cc, h, k, o)
+    go true true true h k o z = absurd (no-way (cc))
+    go true false v h k o z = absurd (no-way (cc))
+    go false f v h k o z = absurd (no-way (cc))
 
 -- what a refusal's 0 says of the windows
 pub windows-apart : (b v : Bool) (rest : ℕ) → _≡_ {A = ℕ} (pick b 2001 (pick v 2011 rest)) 0 → (v ≡ false) × (rest ≡ 0)
@@ -79,14 +82,25 @@ module _ (l : Lent) where
             → Storing l mode root q value d
         go zero h z =
             let f = finish-stores starts (length xs) (length ys) q value d _ z in
-            record { unrefused = h; named = f .0; storing = f .1; within = f .2 }
+            let r = f .0 in
+            let w = f .2 in
+            record {
+              context = r .context;
+              entry = r .entry;
+              unrefused = h;
+              named = f .1 ∙ ap (λ (k : Destination). Outcome.Recorded (recording k (r .context) (r .entry))) w;
+              storing = f .3;
+              within = (rw w at (f .4));
+              clear = ap (λ (k : Destination). overTables (recording k (r .context) (r .entry))) (sym w) ∙ f .5;
+            }
         go (suc r) h z = absurd (no-way (cc))
 
     pub storing-stored : Storing l mode root q value d → requestOf (settings l mode root) xs ys q value ≡ Stored d
     storing-stored s =
-        sym (request-finishes (settings l mode root) xs ys q value 0 (sym (s .unrefused)) refl (Outcome.Recorded d) (sym (s .named))
-        (Outcome.Recorded d) (Stored d) refl
-        (record-stores starts xs ys q value (identityOf q value) d true refl (sym (s .storing)) true refl (sym (s .within)) refl))
+        let r = recording d (s .context) (s .entry) in
+        sym (request-finishes (settings l mode root) xs ys q value 0 (sym (s .unrefused)) refl (Outcome.Recorded r) (sym (s .named))
+        (Outcome.Recorded r) (Stored d) refl
+        (record-stores starts xs ys q value (identityOf q value) r true refl (sym (s .storing)) refl false (sym (s .clear)) true (sym (s .within)) refl refl))
 
     pub stored-low : Storing l mode root q value d → identityOf q value < 2048
     stored-low s = record-low q (identityOf q value) true (sym (s .storing)) refl

@@ -46,15 +46,15 @@ unfolding eight
 words [] = []
 words (v ∷ vs) = eight v ++ words vs
 
--- a page in each window, the second's right after the first's. In the first: the context of device 0 and its message table, both over the file 0x40000000; entry 4 names the file 0x40000200 and entry 5 the file 0x40001200, in the second window. The second is empty: as a device directory it has no valid context
+-- two pages and one, the second window right after the first. In the first page: the context of device 0 and its message table, both over the file 0x40000000; entry 4 names the file 0x40001200, in the page after, entry 5 the file 0x40002200, in the second window, and entry 6 the file 0x40000200, over the tables. The second window is empty: as a device directory it has no valid context
 unfoldable pub memories : Lent
 unfolding words
 memories =
     record {
       first = windowAt 0x40000000
-          (words (0x1 ∷ 0x8000000000040000 ∷ 0 ∷ 0 ∷ 0x1000000000040000 ∷ 0x1f ∷ 0x80000 ∷ 0 ∷ 0x10000083 ∷ 0x100000000A000005 ∷ 0x10000483 ∷ 0x100000000A000006 ∷ [])
-          ++ replicate (4096 - 96) 0);
-      second = windowAt 0x40001000 (replicate 4096 0);
+          (words (0x1 ∷ 0x8000000000040000 ∷ 0 ∷ 0 ∷ 0x1000000000040000 ∷ 0x1f ∷ 0x80000 ∷ 0 ∷ 0x10000483 ∷ 0x100000000A000005 ∷ 0x10000883 ∷ 0x100000000A000006 ∷ 0x10000083 ∷ 0x100000000A000007 ∷ [])
+          ++ replicate (8192 - 112) 0);
+      second = windowAt 0x40002000 (replicate 4096 0);
     }
 
 -- a 4-byte write of device 0, to a page, under a directory mode and a root
@@ -71,25 +71,25 @@ pub early : List Op
 unfolding write writeTo
 early = write 2 0x40000 37 ∷ write 2 0x40000 37 ∷ write 2 0x40000 2048 ∷ []
 
--- after a take: one that finds nothing; two calls that are refused; a store; four to a file of the second window, and a take there; a request under the other root, which has no device; a take of the context's V, so that the first directory then faults too
+-- after a take: one that finds nothing; two calls that are refused; a store; four to a file of the second window, and a take there; one to a file over the tables, which is refused; a request under the other root, which has no device; a take of the context's V, so that the first directory then faults too
 pub later : List Op
 unfolding write writeTo
 later =
-    take 0x40000200 37 ∷ take 0x40000201 37 ∷ write 5 0x40000 37 ∷ write 2 0x40000 0
-    ∷ writeTo 0x80005000 2 0x40000 37 ∷ writeTo 0x80005000 2 0x40000 38 ∷ writeTo 0x80005000 2 0x40000 64 ∷ writeTo 0x80005000 2 0x40000 70 ∷ take 0x40001200 37
-    ∷ write 2 0x40001 37 ∷ take 0x40000000 0 ∷ write 2 0x40000 37 ∷ []
+    take 0x40001200 37 ∷ take 0x40001201 37 ∷ write 5 0x40000 37 ∷ write 2 0x40000 0
+    ∷ writeTo 0x80005000 2 0x40000 37 ∷ writeTo 0x80005000 2 0x40000 38 ∷ writeTo 0x80005000 2 0x40000 64 ∷ writeTo 0x80005000 2 0x40000 70 ∷ take 0x40002200 37
+    ∷ writeTo 0x80006000 2 0x40000 37 ∷ write 2 0x40002 37 ∷ take 0x40000000 0 ∷ write 2 0x40000 37 ∷ []
 
 -- of many: 64 and 70 are taken before these; with a mask of all ones none is left there; 38 isn't in the mask; a doubleword number that is refused; what was stored as 0 in the first window, with the mask that has also 37, which isn't pending
 pub last : List Op
-last = takeMany 0x40001200 1 0xffffffffffffffff ∷ takeMany 0x40001200 0 0x2000000000 ∷ takeMany 0x40001200 32 1 ∷ takeMany 0x40000200 0 0x2000000001 ∷ []
+last = takeMany 0x40002200 1 0xffffffffffffffff ∷ takeMany 0x40002200 0 0x2000000000 ∷ takeMany 0x40002200 32 1 ∷ takeMany 0x40001200 0 0x2000000001 ∷ []
 
 pub middle : List Op
 unfolding early later
-middle = early ++ (take 0x40000200 37 ∷ later)
+middle = early ++ (take 0x40001200 37 ∷ later)
 
 pub ops : List Op
 unfolding middle last
-ops = middle ++ (takeMany 0x40001200 1 0x41 ∷ last)
+ops = middle ++ (takeMany 0x40002200 1 0x41 ∷ last)
 
 abbrev answers : List (Call Op) → List Numbers
 answers [] = []
@@ -100,18 +100,18 @@ account mark stores merged takes = record { mark = mark; stores = stores; merged
 
 -- a file in each window
 abbrev pub near : Place
-near = place firstWindow 0x40000200
+near = place firstWindow 0x40001200
 
 abbrev pub far : Place
-far = place secondWindow 0x40001200
+far = place secondWindow 0x40002200
 
 -- each call's answer, the accounts of seven identities in both windows, and one before the first take
 pub computed :
     (answers (history routines memories ops)
-    ≡ numbers 2 0x40000200 0x28000000 1029 ∷ numbers 2 0x40000200 0x28000000 1029 ∷ numbers 3 0 0 0 ∷ numbers 6 1 0 0 ∷ numbers 6 0 0 0
-    ∷ numbers 5 2008 0 0 ∷ numbers 5 2002 0 0 ∷ numbers 2 0x40000200 0x28000000 1029
-    ∷ numbers 2 0x40001200 0x28000000 1030 ∷ numbers 2 0x40001200 0x28000000 1030 ∷ numbers 2 0x40001200 0x28000000 1030 ∷ numbers 2 0x40001200 0x28000000 1030
-    ∷ numbers 6 1 0 0 ∷ numbers 4 258 0 0 ∷ numbers 6 1 0 0 ∷ numbers 4 258 0 0
+    ≡ numbers 2 0x40001200 0x28000000 1029 ∷ numbers 2 0x40001200 0x28000000 1029 ∷ numbers 3 0 0 0 ∷ numbers 6 1 0 0 ∷ numbers 6 0 0 0
+    ∷ numbers 5 2008 0 0 ∷ numbers 5 2002 0 0 ∷ numbers 2 0x40001200 0x28000000 1029
+    ∷ numbers 2 0x40002200 0x28000000 1030 ∷ numbers 2 0x40002200 0x28000000 1030 ∷ numbers 2 0x40002200 0x28000000 1030 ∷ numbers 2 0x40002200 0x28000000 1030
+    ∷ numbers 6 1 0 0 ∷ numbers 5 2012 0 0 ∷ numbers 4 258 0 0 ∷ numbers 6 1 0 0 ∷ numbers 4 258 0 0
     ∷ numbers 6 0x41 0 0 ∷ numbers 6 0 0 0 ∷ numbers 6 0 0 0 ∷ numbers 5 2009 0 0 ∷ numbers 6 1 0 0 ∷ [])
     × (accountAfter routines memories ops near 37 ≡ account 0 2 1 1)
     × (accountAfter routines memories ops near 0 ≡ account 0 1 0 1)
@@ -144,15 +144,15 @@ pub added : Adds routines memories ops (near ∷ far ∷ [])
 unfolding isFile memories
 added = instance .sums (near ∷ far ∷ []) (refl, (refl, tt)) (counted-all memories ops (near ∷ far ∷ []) (refl, (refl, tt)))
 
-pub told : answerAt routines memories early (take 0x40000200 37) ≡ numbers 6 1 0 0
+pub told : answerAt routines memories early (take 0x40001200 37) ≡ numbers 6 1 0 0
 unfolding ops middle last takeRefusal badWindow overlap isFile memories
-told = rw (computed .4) at (instance .taken early (take 0x40000200 37) near 37 (later ++ (takeMany 0x40001200 1 0x41 ∷ last), refl) refl refl (record { within = refl; counts = tt }) .0)
+told = rw (computed .4) at (instance .taken early (take 0x40001200 37) near 37 (later ++ (takeMany 0x40002200 1 0x41 ∷ last), refl) refl refl (record { within = refl; counts = tt }) .0)
 
 -- a bit in the mask whose interrupt waits is answered
-pub answers-64 : contains (answerAt routines memories middle (takeMany 0x40001200 1 0x41) .first) 0 ≡ true
+pub answers-64 : contains (answerAt routines memories middle (takeMany 0x40002200 1 0x41) .first) 0 ≡ true
 unfolding ops last takeManyRefusal badWindow overlap isFile memories contains
 answers-64 =
-    answered-exactly routines memories ops instance middle (takeMany 0x40001200 1 0x41) far 1 0x41 (last, refl) refl refl (record { within = refl; counts = tt }) 0 (omega arith) .1
+    answered-exactly routines memories ops instance middle (takeMany 0x40002200 1 0x41) far 1 0x41 (last, refl) refl refl (record { within = refl; counts = tt }) 0 (omega arith) .1
     (refl, ap (λ (a : Account). a .mark) waits-64)
 
 pub kept : pendingAfter routines memories early near 37 ≡ 1

@@ -2,7 +2,7 @@
 use Prim.Native.Nat.{ℕ, _+_, _*_, _<_}
 use mathlib.Core.Path.{_≡_}
 use mathlib.Core.Logic.{_↔_}
-use mathlib.Core.Bool.{true, _&&_}
+use mathlib.Core.Bool.{true, false, _&&_}
 use mathlib.Core.List.{List, [], _∷_, _++_}
 use lib.Dec.{eqb}
 use lib.ListN.{length}
@@ -13,25 +13,33 @@ use Rattle.word.specs.Word.{contains, wordOf}
 use Rattle.message.specs.declared.Destination.{Destination}
 use Rattle.interrupt_file.specs.File.{placeOf}
 use Rattle.iommu_refusals.specs.declared.DeviceRequest.{DeviceRequest}
+use Rattle.iommu_translation.specs.declared.Recording.{Recording}
 use Rattle.iommu_translation.specs.declared.Outcome.the-variants.{Recorded}
 use Rattle.iommu_files.specs.declared.Answer.the-variants.{Stored, Refused, Taken}
 use Rattle.iommu_files.specs.declared.Numbers.{Numbers}
 use Rattle.iommu_files.specs.Answers.{numbersOf}
 use Rattle.iommu_refusals.specs.Refusals.{isLentFile, requestRefusal, takeRefusal, takeManyRefusal}
 use Rattle.iommu_translation.specs.Translate.{translateOf}
-use Rattle.iommu.specs.Request.{storable}
+use Rattle.iommu.specs.Request.{storable, overTables}
 use Rattle.iommu.specs.Operations.{request, take, takeMany, startsOf, settings}
 use Rattle.ledger.specs.Places.{Side, windowOf, Place, place, isPlace}
 use Rattle.ledger.specs.Machine.{asks, Machine, Call, callOf, leftBy, history}
 use Rattle.ledger.specs.Ledger.{Account, store, nothing, eventOf, pendingIn, accountOf}
 use Rattle.ledger.specs.Sums.{total, among, Different, opStores, opTakes, addedUp}
 
--- "the standards, read with this document, make it stored on the bytes before that call and no refusal stops it"; d is "the file that its entry names", and its notice
+-- a recorded message by its destination and the addresses of its device context and of its message entry
+abbrev pub recording : Destination → ℕ → ℕ → Recording
+recording d context entry = record { destination = d; context = context; entry = entry }
+
+-- "the standards, read with this document, make it stored on the bytes before that call and no refusal stops it"; d is "the file that its entry names", and its notice. The refusals are those before the walk, 2007 and, since Req 06, 2012
 pub record Storing (l : Lent) (mode root : ℕ) (q : DeviceRequest) (value : ℕ) (d : Destination) : Type 0 where
+  pub context : ℕ
+  pub entry : ℕ
   pub unrefused : requestRefusal (settings l mode root) (length (l .first .bytes)) (length (l .second .bytes)) q ≡ 0
-  pub named : run (memory l) (translateOf (settings l mode root) q) ≡ Recorded d
+  pub named : run (memory l) (translateOf (settings l mode root) q) ≡ Recorded (recording d context entry)
   pub storing : storable q value ≡ true
   pub within : isLentFile (startsOf l) (length (l .first .bytes)) (length (l .second .bytes)) (d .file) ≡ true
+  pub clear : overTables (recording d context entry) ≡ false
 
 -- the number of the check that refuses a take, of one or of many, or 0
 abbrev pub takeRefused : Lent → ℕ → ℕ → ℕ

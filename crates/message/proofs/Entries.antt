@@ -47,9 +47,9 @@ pub redirects : (x : Access) (a e page : ℕ) (bad : Bool) (r : Message) → bad
 unfolding onTranslate
 redirects x a e page bad r h t q p = no-by _ bad r _ _ h t (p ∙ ap (λ k. permitted x (Redirect (k * 4096 + a % 4096))) q)
 
-pub recorded : (x : Access) (e n : ℕ) (bad : Bool) (d : Destination) (r : Message) → bad ≡ recordReserved e n → bad ≡ false → d ≡ destinationOf e n → r ≡ permitted x (Record d) → r ≡ onNotice x e n
+pub recorded : (x : Access) (at e n : ℕ) (bad : Bool) (d : Destination) (r : Message) → bad ≡ recordReserved e n → bad ≡ false → d ≡ destinationOf e n → r ≡ permitted x (Record d at) → r ≡ onNotice x at e n
 unfolding onNotice
-recorded x e n bad d r h t e′ p = no-by _ bad r _ _ h t (p ∙ ap (λ k. permitted x (Record k)) e′)
+recorded x at e n bad d r h t e′ p = no-by _ bad r _ _ h t (p ∙ ap (λ k. permitted x (Record k at)) e′)
 
 -- what follows a load of the table, by what was loaded
 read-as : (m : ℕ → Load) (a : ℕ) (k : ℕ → Walk Message) {v w : Load} {r : Message} → v ≡ m a → v ≡ w → r ≡ run m (onValue (done (tableFault 261)) k w) → r ≡ run m (loadOr (done (tableFault 261)) a k)
@@ -84,11 +84,11 @@ module _ (m : ℕ → Load) (x : Access) (a place e : ℕ) (r : Message) (v : Bo
       module _ (k : mode ≡ 1) (w : Load) (hw : w ≡ m (place + 8)) where
         pub no-notice : w ≡ Violation → r ≡ tableFault 261 → r ≡ run m (onMessageEntry x a place e)
         unfolding onMessageEntry
-        no-notice h p = simp (valid, standard, sym hm ∙ k) (read-as m (place + 8) (λ n. done (onNotice x e n)) hw h p)
+        no-notice h p = simp (valid, standard, sym hm ∙ k) (read-as m (place + 8) (λ n. done (onNotice x place e n)) hw h p)
 
-        pub records : (n : ℕ) → w ≡ Value n → r ≡ onNotice x e n → r ≡ run m (onMessageEntry x a place e)
+        pub records : (n : ℕ) → w ≡ Value n → r ≡ onNotice x place e n → r ≡ run m (onMessageEntry x a place e)
         unfolding onMessageEntry
-        records n h p = simp (valid, standard, sym hm ∙ k) (read-as m (place + 8) (λ n. done (onNotice x e n)) hw h p)
+        records n h p = simp (valid, standard, sym hm ∙ k) (read-as m (place + 8) (λ n. done (onNotice x place e n)) hw h p)
 
 pub ruleset entries = (not-valid, custom, translates, other-mode, no-notice, records)
 

@@ -51,9 +51,9 @@ destinationOf e n =
       number = bits n 9 0 + 1024 * bits n 60 60;
     }
 
--- what the second doubleword of an M = 1 entry leads to
-unfoldable pub onNotice : Access → ℕ → ℕ → Message
-onNotice x e n = pick (recordReserved e n) (tableFault 263) (permitted x (Record (destinationOf e n)))
+-- what the second doubleword of an M = 1 entry leads to; the entry's address goes with it, since Req 06 asks for its page
+unfoldable pub onNotice : Access → ℕ → ℕ → ℕ → Message
+onNotice x at e n = pick (recordReserved e n) (tableFault 263) (permitted x (Record (destinationOf e n) at))
 
 unfoldable pub onTranslate : Access → ℕ → ℕ → Message
 onTranslate x a e = pick (translateReserved e) (tableFault 263) (permitted x (Redirect (redirected e a)))
@@ -67,7 +67,7 @@ onMessageEntry x a at e =
     (pick (eqb (bits e 2 1) 3)
     (done (onTranslate x a e))
     (pick (eqb (bits e 2 1) 1)
-    (loadOr (done (tableFault 261)) (at + 8) (λ n. done (onNotice x e n)))
+    (loadOr (done (tableFault 261)) (at + 8) (λ n. done (onNotice x at e n)))
     (done (tableFault 263)))))
     (done (tableFault 262))
 

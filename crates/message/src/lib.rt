@@ -20,10 +20,10 @@ pub struct Destination {
     pub number: u64,
 }
 
-// What a message entry says.
+// What a message entry says; one in MRIF mode with its own address.
 pub enum Message {
     Redirect(u64),
-    Record(Destination),
+    Record(Destination, u64),
     Fault(FaultInfo),
 }
 
@@ -101,14 +101,14 @@ fn on_translate(x: Access, a: u64, e: u64) -> Message
     )
 }
 
-// A recorded message, by both doublewords of its entry.
-fn on_notice(x: Access, e: u64, n: u64) -> Message
-    ensures { λ r. ⌜ r ≡ onNotice x e n ⌝ }
+// A recorded message, by its entry's address and both doublewords.
+fn on_notice(x: Access, at: u64, e: u64, n: u64) -> Message
+    ensures { λ r. ⌜ r ≡ onNotice x at e n ⌝ }
 {
     if record_reserved(e, n) {
         return table_fault(263);
     }
-    permitted(x, Message::Record(destination_of(e, n)))
+    permitted(x, Message::Record(destination_of(e, n), at))
 }
 
 // What an entry says; the second doubleword is read in MRIF mode alone.
@@ -140,7 +140,7 @@ fn on_message_entry<'a>(
     let Load::Value(n) = memory::load64(starts, first, second, at + 8) else {
         return table_fault(261);
     };
-    on_notice(x, e, n)
+    on_notice(x, at, e, n)
 }
 
 // What the table at a page says of a message to a guest address.
