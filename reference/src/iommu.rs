@@ -6,9 +6,10 @@ use crate::file::{self, FILE_SIZE};
 use crate::many::Take;
 use crate::mark::{Asked, Mark, Point, See, Walk, Word};
 use crate::memory::{Memory, Side, Window};
-use crate::message::{self, MessageEntry};
+use crate::message::{self, Located, MessageEntry};
 use crate::paging::{self, FirstStage, Page};
 use crate::process;
+use crate::tables::{self, Message};
 use crate::task::{first_broken, Task};
 use crate::types::{Answer, Pair, Report, Request, Settings, Stage, Step};
 use crate::windows::{Lie, Place, Purpose, Trail};
@@ -316,10 +317,12 @@ fn note_recognised(task: &mut Task, context: &DeviceContext, guest: u64, first: 
 
 /// 01, Messages: what a recognised access becomes.
 fn message_end(task: &mut Task, context: &DeviceContext, guest: u64, data: u32) -> Step<End> {
-    match message::locate(task, context, guest)? {
+    let Located { address, entry } = message::locate(task, context, guest)?;
+    match entry {
         // 003, step 13.2: the offset is kept.
         MessageEntry::Redirect { page } => {
             task.note(Point::Redirect);
+            tables::tell(task, Message::Redirect, page, false);
             Ok(End::Answer(Answer::Redirected(page | (guest % 4_096))))
         }
         MessageEntry::File {
@@ -328,8 +331,17 @@ fn message_end(task: &mut Task, context: &DeviceContext, guest: u64, data: u32) 
             notice_number,
         } => {
             let Some((side, identity)) = stored_identity(task, file, guest, data)? else {
+                tables::tell(task, Message::Discard, file, false);
                 return Ok(End::Answer(Answer::Discarded));
             };
+            if is_over_tables(file, context.address, address) {
+                tables::tell(task, Message::Store, file, true);
+                tables::tell_refused(task, side, file, guest);
+                return Err(Answer::Refused(2012));
+            }
+            tables::tell(task, Message::Store, file, false);
+            tables::tell_stored(task, file, context.message_table());
+            note_windows(task, side);
             note_store(task, guest, identity, notice_number);
             Ok(End::Store(Store {
                 side,
@@ -360,7 +372,7 @@ fn stored_identity(task: &mut Task, file: u64, guest: u64, data: u32) -> Step<Op
     };
     let place = Place::of(task.memory, file);
     (task.see)(Mark::File(Purpose::Store, place, holder));
-    // Refusal 2007, last of all.
+    // Refusal 2007: last of all but 2012 (02, Req 06).
     let Some(side) = holder else {
         task.note(match outside(task.memory, file) {
             Outside::Below => Point::R2007Below,
@@ -369,10 +381,22 @@ fn stored_identity(task: &mut Task, file: u64, guest: u64, data: u32) -> Step<Op
         });
         return Err(Answer::Refused(2007));
     };
+    Ok(Some((side, identity)))
+}
+
+/// Refusal 2012. 02, Req 06: "exactly when its file lies in the 4 KiB page that holds the request's
+/// device context or its message entry". Each of the three begins at a multiple of its size, so that it
+/// lies in one page.
+fn is_over_tables(file: u64, context: u64, entry: u64) -> bool {
+    let page = |address: u64| address / 4_096;
+    page(file) == page(context) || page(file) == page(entry)
+}
+
+/// Tells the observer of a store's windows: that of the message entry, and that of the file.
+fn note_windows(task: &mut Task, side: Side) {
     if let Some(entry) = task.trail.last() {
         (task.see)(Mark::Message(entry, side));
     }
-    Ok(Some((side, identity)))
 }
 
 /// The bytes of a file that this window holds.
