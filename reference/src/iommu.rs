@@ -42,10 +42,21 @@ pub fn request_observed(
     data: u32,
     see: See,
 ) -> Answer {
+    request_followed(settings, memory, request, data, see).0
+}
+
+/// One device request, with the loads that it made, for those who want to know of a wrong rule.
+pub fn request_followed(
+    settings: &Settings,
+    memory: &mut Memory,
+    request: &Request,
+    data: u32,
+    see: See,
+) -> (Answer, Trail) {
     let mut broken = broken_windows(memory);
     broken.extend(broken_request(settings, request));
     if let Some(number) = refuse(Asked::Request, memory, &broken, see) {
-        return Answer::Refused(number);
+        return (Answer::Refused(number), Trail::default());
     }
     let mut task = Task {
         memory,
@@ -54,18 +65,18 @@ pub fn request_observed(
         trail: Trail::default(),
     };
     let end = translate(&mut task, settings, data);
-    let over = task.trail.over();
+    let trail = task.trail;
     let answer = match end {
         Ok(End::Answer(answer)) => answer,
         Ok(End::Store(place)) => store(memory, &place, see),
         Err(answer) => answer,
     };
-    match (answer, over) {
+    match (answer, trail.over()) {
         (Answer::Fault { cause, stage }, _) => see(Mark::Cause(stage, cause)),
         (Answer::Refused(_), _) | (_, None) => {}
         (_, Some(over)) => see(Mark::Ended(answer.numbers()[0], over)),
     }
-    answer
+    (answer, trail)
 }
 
 /// A broken check: the number that it refuses with, and its mark.

@@ -268,6 +268,11 @@ impl Trail {
         self.over
     }
 
+    /// The tables and addresses of the entries that were found, in order.
+    pub fn loads(&self) -> &[(Table, u64)] {
+        &self.loads
+    }
+
     /// The address of the last entry of a table that was found.
     pub fn last_of(&self, table: Table) -> Option<u64> {
         let mut loads = self.loads.iter().rev();
