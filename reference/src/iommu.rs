@@ -1,5 +1,5 @@
 //! The four calls: request, take, take of many, report (003, Process to translate an IOVA; 01; 02, Req
-//! 12).
+//! 05, 06 and 12).
 
 use crate::device::{self, DeviceContext};
 use crate::file::{self, FILE_SIZE};
@@ -45,7 +45,7 @@ pub fn request_observed(
     request_followed(settings, memory, request, data, see).0
 }
 
-/// One device request, with the loads that it made, for those who want to know of a wrong rule.
+/// One device request, with the table entries that it read.
 pub fn request_followed(
     settings: &Settings,
     memory: &mut Memory,
@@ -395,9 +395,9 @@ fn stored_identity(task: &mut Task, file: u64, guest: u64, data: u32) -> Step<Op
     Ok(Some((side, identity)))
 }
 
-/// Refusal 2012. 02, Req 06: "exactly when its file lies in the 4 KiB page that holds the request's
-/// device context or its message entry". Each of the three begins at a multiple of its size, so that it
-/// lies in one page.
+/// 02, Req 06: "Refuse a store with 2012 exactly when its file lies in the 4 KiB page that holds the
+/// request's device context or its message entry. This comes after 2007". Each of the three begins at a
+/// multiple of its size, so that it lies in one page.
 fn is_over_tables(file: u64, context: u64, entry: u64) -> bool {
     let page = |address: u64| address / 4_096;
     page(file) == page(context) || page(file) == page(entry)

@@ -91,8 +91,8 @@ const UNCOUNTED: [Table; 5] = [
 /// the page that it is redirected to, and whether it was refused with 2012.
 pub fn tell(task: &mut Task, message: Message, place: u64, refused: bool) {
     let page = place / PAGE;
-    let sides = COUNTED.map(|(table, _)| task.trail.last_of(table));
-    let [Some(context), Some(entry)] = sides else {
+    let read = COUNTED.map(|(table, _)| task.trail.last_of(table));
+    let [Some(context), Some(entry)] = read else {
         return;
     };
     let [context, entry] = [context, entry].map(|table| Beside::of(page, table / PAGE));
