@@ -6,6 +6,7 @@ use std::ops::Range;
 use yasmurekh_compare::{Comparison, Library, Reference};
 use yasmurekh_reference::coverage::Coverage;
 use yasmurekh_reference::generate::{Call, List};
+use yasmurekh_reference::mark::{Mark, Point};
 use yasmurekh_reference::memory::{Memory, Window};
 use yasmurekh_reference::random::Random;
 use yasmurekh_reference::text::write_list;
@@ -304,6 +305,9 @@ fn pages_that_point_anywhere() {
     println!("{:?}, {} marks", coverage.answers, coverage.marks.len());
     assert!(coverage.answers.iter().all(|count| *count > 20));
     assert!(coverage.marks.len() > 300);
+    // Any page may be any table or hold files, so that some files lie over their tables.
+    let refused = [Point::R2012At0, Point::R2012At4].map(Mark::Point);
+    assert!(refused.iter().all(|mark| coverage.marks.contains_key(mark)));
 }
 
 #[test]

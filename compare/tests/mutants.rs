@@ -3,6 +3,8 @@
 
 #[path = "mutants/many.rs"]
 mod many;
+#[path = "mutants/tables.rs"]
+mod tables;
 #[path = "mutants/windows.rs"]
 mod windows;
 

@@ -1,5 +1,5 @@
 //! The program's own checks: P1 to P14 of 01, its limits (with those of every scheme), the order of
-//! its refusals, takes of many, the two windows, and the cases of the wired domain.
+//! its refusals, takes of many, the two windows, files over tables, and the cases of the wired domain.
 
 use crate::aplic;
 use crate::device;
@@ -12,6 +12,7 @@ use crate::memory::{Memory, Window};
 use crate::message::{alignment, extract, recognised};
 use crate::process;
 use crate::scheme_check;
+use crate::table_check;
 use crate::types::{Access, Answer, Request, Settings, Stage};
 use crate::window_check;
 
@@ -74,6 +75,7 @@ pub fn all() -> Vec<Check> {
     ledger_rules(&mut checks);
     many_check::all(&mut checks);
     window_check::all(&mut checks);
+    table_check::all(&mut checks);
     aplic::check::all(&mut checks);
     aplic::direct_check::all(&mut checks);
     checks.made
@@ -667,7 +669,7 @@ fn two_stage_rules(checks: &mut Checks) {
     checks.answer(name, found, fault(7, Stage::Second));
 }
 
-/// Messages: alignment, order, refusal 2007 last of all.
+/// Messages: alignment, order, refusal 2007 after all other checks (2012 is among those of `table_check`).
 fn message_rules(checks: &mut Checks) {
     let aligned = alignment(0) == 4_096
         && alignment(255) == 4_096

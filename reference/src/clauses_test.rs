@@ -206,6 +206,19 @@ fn windows_that_are_refused() {
     assert_eq!(answers(text), Ok(expected.to_string()));
 }
 
+/// 02, Req 06: a file in the context's page, in the entry's, in the page between them; 2,048 is discarded.
+#[test]
+fn files_over_tables() {
+    let text = format!(
+        "{CONTEXT}w 0x2020 0x10000383\nr 0 0 0 1 0x80006000 4 37\nt 0x40000e00 37\n\
+         r 0 0 0 1 0x80006000 4 2048\nw 0x2020 0x10000b83\nr 0 0 0 1 0x80006004 4 620756992\n\
+         p 0x40002e00\nw 0x2020 0x10000783\nr 0 0 0 1 0x80006000 4 37\nt 0x40001e00 37\n"
+    );
+    let expected = "1 5 2012 0 0 0\n2 6 0 0 0\n3 3 0 0 0 0\n4 5 2012 0 0 0\n5 0 0 0 0\n\
+        6 2 1073749504 0 0 0\n7 6 1 0 0\n";
+    assert_eq!(answers(&text), Ok(expected.to_string()));
+}
+
 #[test]
 fn worked_cases_of_the_directories() {
     // P11: two levels answer 260; P12: PD17, mode 2 of a process directory, answers 260, and a process of

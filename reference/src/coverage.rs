@@ -446,7 +446,7 @@ mod tests {
 
     /// A mark with the word that it must not have: two checks in the other order, a page opened or
     /// barred, an edge passed or not, a field accepted or refused, windows refused or not, an entry or a
-    /// file found or not, a bit answered or not the wrong way round.
+    /// file found or not, a bit answered or not, a message refused with 2012 or not the wrong way round.
     fn wrong_word(mark: Mark) -> Option<Mark> {
         match mark {
             Mark::Before(asked, first, other) => Some(Mark::Before(asked, other, first)),
@@ -466,6 +466,9 @@ mod tests {
             Mark::Bit(mut case) => {
                 case.answered = !case.answered;
                 Some(Mark::Bit(case))
+            }
+            Mark::Beside(message, context, entry, refused) => {
+                Some(Mark::Beside(message, context, entry, !refused))
             }
             _ => None,
         }
@@ -533,10 +536,15 @@ mod tests {
         let wrong: Vec<Mark> = Mark::all().into_iter().filter_map(wrong_word).collect();
         // The order of refusals has 20, 6, 6 and 3 rows, the rule of U 42, the schemes' edges 26, the
         // fields 64, 16 and 130, the windows 30 for each call, loads 7 and files 4 for each place, the
-        // bits of a take of many 8.
+        // bits of a take of many 8, three kinds of message 4 for each of two pages.
         let windows = 4 * 30 + 7 * 3 + 4 * 3;
         let orders = 20 + 6 + 6 + 3;
-        assert_eq!(wrong.len(), orders + 42 + 26 + 64 + 16 + 130 + windows + 8);
+        let fields = 64 + 16 + 130;
+        let messages = 3 * 4 * 4;
+        assert_eq!(
+            wrong.len(),
+            orders + 42 + 26 + fields + windows + 8 + messages
+        );
         for mark in wrong {
             let mut coverage = whole.clone();
             coverage.marks.insert(mark, 1);

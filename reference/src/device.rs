@@ -8,9 +8,11 @@ use crate::task::{first_broken, Task};
 use crate::types::{bit, bits, page_address, Settings, Stage, Step};
 use crate::windows::Table;
 
-/// The eight doublewords of an extended device context.
+/// The eight doublewords of an extended device context, and where they lie.
 #[derive(Clone, Copy, Debug, PartialEq, Eq)]
 pub struct DeviceContext {
+    /// The address of its first byte (02, Req 06).
+    pub address: u64,
     pub tc: u64,
     pub iohgatp: u64,
     pub ta: u64,
@@ -43,6 +45,11 @@ impl DeviceContext {
             scheme,
             table: page_address(page_number(self.iohgatp)),
         })
+    }
+
+    /// The address of the message table.
+    pub fn message_table(&self) -> u64 {
+        page_address(page_number(self.msiptp))
     }
 
     /// msiptp's mode isn't Off.
@@ -153,6 +160,7 @@ fn load_context(task: &mut Task, address: u64) -> Step<DeviceContext> {
     }
     let [tc, iohgatp, ta, fsc, msiptp, mask, pattern, reserved] = words;
     let context = DeviceContext {
+        address,
         tc,
         iohgatp,
         ta,

@@ -1,14 +1,15 @@
 //! The four calls: request, take, take of many, report (003, Process to translate an IOVA; 01; 02, Req
-//! 12).
+//! 05, 06 and 12).
 
 use crate::device::{self, DeviceContext};
 use crate::file::{self, FILE_SIZE};
 use crate::many::Take;
 use crate::mark::{Asked, Mark, Point, See, Walk, Word};
 use crate::memory::{Memory, Side, Window};
-use crate::message::{self, MessageEntry};
+use crate::message::{self, Located, MessageEntry};
 use crate::paging::{self, FirstStage, Page};
 use crate::process;
+use crate::tables::{self, Message};
 use crate::task::{first_broken, Task};
 use crate::types::{Answer, Pair, Report, Request, Settings, Stage, Step};
 use crate::windows::{Lie, Place, Purpose, Trail};
@@ -41,10 +42,21 @@ pub fn request_observed(
     data: u32,
     see: See,
 ) -> Answer {
+    request_followed(settings, memory, request, data, see).0
+}
+
+/// One device request, with the table entries that it read.
+pub fn request_followed(
+    settings: &Settings,
+    memory: &mut Memory,
+    request: &Request,
+    data: u32,
+    see: See,
+) -> (Answer, Trail) {
     let mut broken = broken_windows(memory);
     broken.extend(broken_request(settings, request));
     if let Some(number) = refuse(Asked::Request, memory, &broken, see) {
-        return Answer::Refused(number);
+        return (Answer::Refused(number), Trail::default());
     }
     let mut task = Task {
         memory,
@@ -53,18 +65,18 @@ pub fn request_observed(
         trail: Trail::default(),
     };
     let end = translate(&mut task, settings, data);
-    let over = task.trail.over();
+    let trail = task.trail;
     let answer = match end {
         Ok(End::Answer(answer)) => answer,
         Ok(End::Store(place)) => store(memory, &place, see),
         Err(answer) => answer,
     };
-    match (answer, over) {
+    match (answer, trail.over()) {
         (Answer::Fault { cause, stage }, _) => see(Mark::Cause(stage, cause)),
         (Answer::Refused(_), _) | (_, None) => {}
         (_, Some(over)) => see(Mark::Ended(answer.numbers()[0], over)),
     }
-    answer
+    (answer, trail)
 }
 
 /// A broken check: the number that it refuses with, and its mark.
@@ -316,10 +328,12 @@ fn note_recognised(task: &mut Task, context: &DeviceContext, guest: u64, first: 
 
 /// 01, Messages: what a recognised access becomes.
 fn message_end(task: &mut Task, context: &DeviceContext, guest: u64, data: u32) -> Step<End> {
-    match message::locate(task, context, guest)? {
+    let Located { address, entry } = message::locate(task, context, guest)?;
+    match entry {
         // 003, step 13.2: the offset is kept.
         MessageEntry::Redirect { page } => {
             task.note(Point::Redirect);
+            tables::tell(task, Message::Redirect, page, false);
             Ok(End::Answer(Answer::Redirected(page | (guest % 4_096))))
         }
         MessageEntry::File {
@@ -328,8 +342,17 @@ fn message_end(task: &mut Task, context: &DeviceContext, guest: u64, data: u32) 
             notice_number,
         } => {
             let Some((side, identity)) = stored_identity(task, file, guest, data)? else {
+                tables::tell(task, Message::Discard, file, false);
                 return Ok(End::Answer(Answer::Discarded));
             };
+            if is_over_tables(file, context.address, address) {
+                tables::tell(task, Message::Store, file, true);
+                tables::tell_refused(task, side, file, guest);
+                return Err(Answer::Refused(2012));
+            }
+            tables::tell(task, Message::Store, file, false);
+            tables::tell_stored(task, file, context.message_table());
+            note_windows(task, side);
             note_store(task, guest, identity, notice_number);
             Ok(End::Store(Store {
                 side,
@@ -360,7 +383,7 @@ fn stored_identity(task: &mut Task, file: u64, guest: u64, data: u32) -> Step<Op
     };
     let place = Place::of(task.memory, file);
     (task.see)(Mark::File(Purpose::Store, place, holder));
-    // Refusal 2007, last of all.
+    // Refusal 2007: last of all but 2012 (02, Req 06).
     let Some(side) = holder else {
         task.note(match outside(task.memory, file) {
             Outside::Below => Point::R2007Below,
@@ -369,10 +392,22 @@ fn stored_identity(task: &mut Task, file: u64, guest: u64, data: u32) -> Step<Op
         });
         return Err(Answer::Refused(2007));
     };
+    Ok(Some((side, identity)))
+}
+
+/// 02, Req 06: "Refuse a store with 2012 exactly when its file lies in the 4 KiB page that holds the
+/// request's device context or its message entry. This comes after 2007". Each of the three begins at a
+/// multiple of its size, so that it lies in one page.
+fn is_over_tables(file: u64, context: u64, entry: u64) -> bool {
+    let page = |address: u64| address / 4_096;
+    page(file) == page(context) || page(file) == page(entry)
+}
+
+/// Tells the observer of a store's windows: that of the message entry, and that of the file.
+fn note_windows(task: &mut Task, side: Side) {
     if let Some(entry) = task.trail.last() {
         (task.see)(Mark::Message(entry, side));
     }
-    Ok(Some((side, identity)))
 }
 
 /// The bytes of a file that this window holds.

@@ -29,6 +29,8 @@ pub mod process;
 pub mod random;
 pub mod scheme;
 pub mod scheme_check;
+pub mod table_check;
+pub mod tables;
 pub mod task;
 pub mod text;
 pub mod types;

@@ -3,6 +3,7 @@
 use crate::many::{self, BitCase, Many};
 use crate::memory::Side;
 use crate::scheme::{self, of_mode, page_bits, Scheme};
+use crate::tables::{self, Beside, Held, Message, Within};
 use crate::types::{Access, Stage};
 use crate::windows::{self, Lie, Over, Place, Purpose, Table};
 
@@ -80,6 +81,9 @@ named!(
         R2007Below = "2007 file below the windows",
         R2007Between = "2007 file between the windows",
         R2007Above = "2007 file above the windows",
+        R2012At0 = "2012 at offset 0",
+        R2012At4 = "2012 at offset 4",
+        R2012Process = "2012 with a process_id",
         R2008Misaligned = "2008 file misaligned",
         R2008Below = "2008 file below the windows",
         R2008Between = "2008 file between the windows",
@@ -198,6 +202,7 @@ named!(
         StoreZero = "stored, identity 0",
         StoreLast = "stored, identity 2047",
         NoticeBit10 = "stored, notice bit 10 set",
+        StoreInMessageTable = "stored, file in the message table's first page, its entry in another",
         DiscardRead = "discarded, read",
         DiscardLength = "discarded, length",
         DiscardOffset = "discarded, offset",
@@ -390,6 +395,15 @@ pub enum Mark {
     Message(Side, Side),
     /// An answer's number, and the windows of the request's tables.
     Ended(u64, Over),
+    /// A message, where its file or page is by the page of the device context and by that of the
+    /// message entry, and whether it was refused with 2012.
+    Beside(Message, Beside, Beside, bool),
+    /// A store refused with 2012: the tables in whose page the file lies, and its window.
+    OverTables(Held, Side),
+    /// Where in the page of the one table's entry the file of a refused store is.
+    Within(Table, Within),
+    /// A store into a page in which the request read an entry of another table.
+    StoredIn(Table),
     /// What a take of many was given and answered.
     Many(Many),
     /// A bit of a take of many's doubleword, and what became of it.
@@ -609,6 +623,7 @@ impl Mark {
         marks.append(&mut message_marks());
         marks.append(&mut passed_marks());
         marks.append(&mut windows::marks());
+        marks.append(&mut tables::marks());
         marks.append(&mut many::marks());
         for (stage, causes) in CAUSES {
             marks.extend(causes.iter().map(|cause| Mark::Cause(stage, *cause)));
@@ -641,6 +656,9 @@ impl Mark {
             Mark::Crossed(..) => "loads from window to window",
             Mark::File(..) | Mark::Message(..) => "files by window",
             Mark::Ended(..) => "answers by the windows of the tables",
+            Mark::Beside(..) => "messages by the pages of device context and message entry",
+            Mark::OverTables(..) | Mark::Within(..) => "2012 by page",
+            Mark::StoredIn(_) => "stores into the pages of other tables",
             Mark::Many(_) => "takes of many",
             Mark::Bit(_) => "bits of a take of many",
             Mark::AnsweredBit(_) | Mark::AnsweredIn(_) => "answered bits of a take of many",
@@ -714,6 +732,23 @@ impl Mark {
                 format!("stored, message entry in the {entry} window, file in the {file}")
             }
             Mark::Ended(answer, over) => format!("answer {answer}, {}", over.name()),
+            _ => self.table_name(),
+        }
+    }
+
+    /// The name of a mark about files over tables.
+    fn table_name(self) -> String {
+        match self {
+            Mark::Beside(message, context, entry, refused) => {
+                let (message, word) = (message.name(), if refused { ": refused" } else { "" });
+                let (context, entry) = (context.name(), entry.name());
+                format!("{message}, by the context {context}, by the entry {entry}{word}")
+            }
+            Mark::OverTables(over, side) => {
+                format!("{}, {} window", over.name(), side.name())
+            }
+            Mark::Within(table, within) => format!("{}: {}", table.name(), within.name()),
+            Mark::StoredIn(table) => format!("stored, page of a {}", table.name()),
             _ => self.many_name(),
         }
     }

@@ -1,6 +1,6 @@
 //! Messages (003, Process to translate addresses of MSIs; 000, 8.1.4 and 8.1.5; 01, Messages).
 
-use crate::device::{page_number, DeviceContext};
+use crate::device::DeviceContext;
 use crate::file::read;
 use crate::mark::Point;
 use crate::task::{first_broken, Task};
@@ -18,6 +18,14 @@ pub enum MessageEntry {
         notice_address: u64,
         notice_number: u64,
     },
+}
+
+/// A valid message entry, and where it lies.
+#[derive(Clone, Copy, Debug, PartialEq, Eq)]
+pub struct Located {
+    /// The address of its first byte (02, Req 06).
+    pub address: u64,
+    pub entry: MessageEntry,
 }
 
 /// 000, 8.1.4: the guest page number equals the pattern in every bit where the mask is zero.
@@ -58,16 +66,17 @@ pub fn alignment(mask: u64) -> u128 {
 }
 
 /// 003, Process to translate addresses of MSIs, steps 5 to 15, for a recognised address.
-pub fn locate(task: &mut Task, context: &DeviceContext, guest: u64) -> Step<MessageEntry> {
+pub fn locate(task: &mut Task, context: &DeviceContext, guest: u64) -> Step<Located> {
     // Steps 5 and 6.
     let number = extract(guest >> 12, context.mask);
-    let table = page_address(page_number(context.msiptp));
+    let table = context.message_table();
     // 01, Messages: a misaligned table is 263 without a load.
     if !u128::from(table).is_multiple_of(alignment(context.mask)) {
         return task.end(Point::F263Table, 263, Stage::MessageTable);
     }
     task.note(packed(context.mask));
-    let entry = load_entry(task, table + 16 * number)?;
+    let address = table + 16 * number;
+    let entry = load_entry(task, address)?;
     // Step 15.
     if task.request.access == Access::ReadForExecute {
         let point = match entry {
@@ -76,7 +85,7 @@ pub fn locate(task: &mut Task, context: &DeviceContext, guest: u64) -> Step<Mess
         };
         return task.end(point, 1, Stage::MessageTable);
     }
-    Ok(entry)
+    Ok(Located { address, entry })
 }
 
 /// 003, Process to translate addresses of MSIs, steps 7 to 14.

@@ -20,7 +20,7 @@ impl<'a> Task<'a> {
         let found = self.memory.holder(address, length);
         let place = Place::of(self.memory, address);
         (self.see)(Mark::Load(table, place, found));
-        if let Some(step) = self.trail.step(table, found) {
+        if let Some(step) = self.trail.step(table, address, found) {
             (self.see)(step);
         }
         self.memory.window(found?).part(address, length)

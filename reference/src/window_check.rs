@@ -119,7 +119,7 @@ fn order(checks: &mut Checks) {
 }
 
 /// A bench's one window cut in two after so many pages; the lower part is the first window or not.
-fn cut(layout: &Layout, pages: usize, lower_first: bool) -> Memory {
+pub fn cut(layout: &Layout, pages: usize, lower_first: bool) -> Memory {
     let Window { start, bytes } = &layout.memory.first;
     let (low, high) = bytes.split_at(pages * 4_096);
     let lower = Window {
@@ -143,7 +143,7 @@ fn cut(layout: &Layout, pages: usize, lower_first: bool) -> Memory {
 }
 
 /// The bytes of two windows side by side, from the lower one on.
-fn joined(memory: &Memory, lower_first: bool) -> Vec<u8> {
+pub fn joined(memory: &Memory, lower_first: bool) -> Vec<u8> {
     let (first, second) = (&memory.first.bytes, &memory.second.bytes);
     match lower_first {
         true => [&first[..], second].concat(),

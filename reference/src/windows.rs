@@ -234,16 +234,19 @@ named!(
 );
 
 /// The loads of one request so far.
-#[derive(Clone, Copy, Default)]
+#[derive(Clone, Default)]
 pub struct Trail {
     last: Option<(Table, Side)>,
     over: Option<Over>,
+    /// The tables, and the addresses of the entries that were found.
+    loads: Vec<(Table, u64)>,
 }
 
 impl Trail {
     /// Keeps a load; gives the step from the last one to it, where it leads from window to window.
-    pub fn step(&mut self, table: Table, found: Option<Side>) -> Option<Mark> {
+    pub fn step(&mut self, table: Table, address: u64, found: Option<Side>) -> Option<Mark> {
         let side = found?;
+        self.loads.push((table, address));
         let before = self.last.replace((table, side));
         self.over = match (self.over, side) {
             (None | Some(Over::First), Side::First) => Some(Over::First),
@@ -263,6 +266,23 @@ impl Trail {
 
     pub fn over(&self) -> Option<Over> {
         self.over
+    }
+
+    /// The tables and addresses of the entries that were found, in order.
+    pub fn loads(&self) -> &[(Table, u64)] {
+        &self.loads
+    }
+
+    /// The address of the last entry of a table that was found.
+    pub fn last_of(&self, table: Table) -> Option<u64> {
+        let mut loads = self.loads.iter().rev();
+        loads.find(|load| load.0 == table).map(|load| load.1)
+    }
+
+    /// Whether an entry of a table was found in a page, given by its number.
+    pub fn read_in(&self, table: Table, page: u64) -> bool {
+        let mut loads = self.loads.iter();
+        loads.any(|load| load.0 == table && load.1 / 4_096 == page)
     }
 }
 

@@ -18,6 +18,19 @@ pub enum Place {
     MessageEntry(u64),
 }
 
+impl Place {
+    fn address(self) -> u64 {
+        match self {
+            Place::DirectoryPointer(address)
+            | Place::DeviceContext(address)
+            | Place::ProcessPointer(address)
+            | Place::ProcessContext(address)
+            | Place::PageEntry { address, .. }
+            | Place::MessageEntry(address) => address,
+        }
+    }
+}
+
 /// Guest addresses, from a base on, that map the addresses from a low one on, for tables.
 #[derive(Clone, Copy, Debug)]
 pub struct Region {
@@ -46,7 +59,10 @@ pub struct Messages {
     pub mask: u64,
     pub pattern: u64,
     pub table: u64,
+    /// The page of the table that has the entries.
     pub page: u64,
+    /// The device context.
+    pub context: u64,
 }
 
 /// An address that a device may use, with what its entries ask.
@@ -404,7 +420,7 @@ impl World {
         };
         let space = if self.random.chance(78) { space } else { None };
         let messages = match space {
-            Some(_) if self.random.chance(85) => self.add_message_table(),
+            Some(_) if self.random.chance(85) => self.add_message_table(context),
             _ => None,
         };
         let mut words = self.context_noise();
@@ -467,9 +483,13 @@ impl World {
         words
     }
 
-    /// A device number within the directory's levels; the upper indices repeat.
+    /// A device number within the directory's levels, at times the first or the last of its page; the
+    /// upper indices repeat.
     fn device_id(&mut self) -> u64 {
-        let low = self.random.below(64);
+        let low = match self.random.chance(15) {
+            true => self.random.pick(&[0, 63]),
+            false => self.random.below(64),
+        };
         let middle = self.high_ids[self.random.below(2) as usize];
         let high = self.high_ids[1];
         match self.mode {
@@ -701,10 +721,14 @@ impl World {
         1 | permissions | marks | software | u64::from(user) << 4
     }
 
-    /// A message table: a mask, a pattern, and a page that holds entries.
-    fn add_message_table(&mut self) -> Option<Messages> {
-        let page = self.page(Role::Messages)?;
+    /// A message table: a mask, a pattern, and a page that holds entries, at times the one of the device
+    /// context.
+    fn add_message_table(&mut self, context: u64) -> Option<Messages> {
         let mask = choose_mask(&mut self.random);
+        let page = match self.random.chance(12) {
+            true => align_down(context, 4_096),
+            false => self.page(Role::Messages)?,
+        };
         let alignment = (16u64 << mask.count_ones()).max(4_096);
         // Mostly within what a first stage can name; at times so low that the mask's bits are above.
         let width = self.random.pick(&[2, 29, 38, 44, 44, MESSAGE_BITS as u32]);
@@ -713,17 +737,16 @@ impl World {
             pattern: self.random.of_width(width),
             table: align_down(page, alignment),
             page,
+            context,
         })
     }
 
     /// One message entry: the guest page that leads to it, and the file that it names.
     fn add_message_entry(&mut self, messages: &Messages) -> (u64, u64) {
-        let entries = 1u64 << messages.mask.count_ones();
-        let slot = self.random.below(entries.min(256));
-        let place = messages.page + slot * 16;
+        let place = self.entry_place(messages);
         let number = (place - messages.table) / 16;
         let page = deposit(number, messages.mask) | (messages.pattern & !messages.mask);
-        let file = self.choose_file();
+        let file = self.choose_file(messages, place);
         if self.layout.get(place) == 0 {
             let to_file = self.random.chance(75);
             let (first, second) = if to_file {
@@ -732,7 +755,11 @@ impl World {
                 let notice = self.random.of_width(44) << 10;
                 ((file / 512) << 7 | 3, low | bit10 | notice)
             } else {
-                (self.random.of_width(44) << 10 | 7, self.random.number())
+                let page = match self.random.chance(50) {
+                    true => file / 4_096,
+                    false => self.random.of_width(44),
+                };
+                (page << 10 | 7, self.random.number())
             };
             self.layout.put(place, first);
             self.layout.put(place + 8, second);
@@ -742,11 +769,28 @@ impl World {
         (page << 12, named)
     }
 
-    /// A file for a message entry: mostly a page of files, at times any place, also outside.
-    fn choose_file(&mut self) -> u64 {
+    /// The place of a message entry; at times the last one, and none in the device context where they
+    /// share a page that has room for both.
+    fn entry_place(&mut self, messages: &Messages) -> u64 {
+        let entries = (1u64 << messages.mask.count_ones()).min(256);
+        let slot = match self.random.chance(8) {
+            true => entries - 1,
+            false => self.random.below(entries),
+        };
+        let place = messages.page + slot * 16;
+        match place / 64 == messages.context / 64 && entries >= 8 {
+            true => place ^ 64,
+            false => place,
+        }
+    }
+
+    /// A file for a message entry: mostly a page of files, at times a page of tables or one beside
+    /// these, at times any place, also outside.
+    fn choose_file(&mut self, messages: &Messages, entry: u64) -> u64 {
         match self.random.below(100) {
-            0..=74 => self.random.choose(&self.files.clone()).unwrap_or(0),
-            75..=87 => self.any_file(),
+            0..=61 => self.random.choose(&self.files.clone()).unwrap_or(0),
+            62..=80 => self.file_by_tables(messages, entry),
+            81..=87 => self.any_file(),
             88..=93 => self.file_beside() % (1 << 56),
             94..=96 => {
                 let start = self.any_file();
@@ -754,6 +798,28 @@ impl World {
             }
             _ => self.random.of_width(47) * 512,
         }
+    }
+
+    /// A file in the page of the device context or of the message entry, in a page beside it, in the
+    /// message table's first page, or in that of any other table.
+    fn file_by_tables(&mut self, messages: &Messages, entry: u64) -> u64 {
+        let table = self.random.pick(&[messages.context, entry]);
+        let random = &mut self.random;
+        let place = match random.below(20) {
+            0..=10 => table,
+            11..=13 => table.saturating_sub(4_096),
+            14..=16 => table + 4_096,
+            17 => messages.table,
+            _ => random.choose(&self.places).map_or(table, Place::address),
+        };
+        let page = align_down(place, 4_096);
+        let file = match random.below(5) {
+            0 => align_down(place, 512),
+            1 => page,
+            2 => page + 7 * 512,
+            _ => page + random.below(8) * 512,
+        };
+        file % (1 << 56)
     }
 
     /// Any file of the windows; the start of one that is empty.

@@ -418,10 +418,13 @@ fn another_word_for_2009() {
     }
 }
 
-/// Another doubleword than the one named is taken.
-fn elsewhere(given: &Given, offset: u64, before: &Memory, after: &mut Memory) -> Answer {
+/// Another doubleword than the one named is taken, at an offset that is asked of numbers up to 31 alone.
+fn elsewhere(given: &Given, offset: fn(u64) -> u64, before: &Memory, after: &mut Memory) -> Answer {
     match given.answer {
-        Answer::TakenMany(_) => take_at(given.file + offset, given.mask, before, after),
+        Answer::TakenMany(_) => {
+            let place = given.file + offset(given.doubleword);
+            take_at(place, given.mask, before, after)
+        }
         refused => refused,
     }
 }
@@ -430,23 +433,22 @@ fn elsewhere(given: &Given, offset: u64, before: &Memory, after: &mut Memory) ->
 fn other_doublewords_taken() {
     let wrongs: [(&str, WrongTake); 6] = [
         ("8 apart", |given, before, after| {
-            elsewhere(given, 8 * given.doubleword, before, after)
+            elsewhere(given, |number| 8 * number, before, after)
         }),
         ("8 apart, pending ones first", |given, before, after| {
-            elsewhere(given, 8 * given.doubleword + 8, before, after)
+            elsewhere(given, |number| 8 * number + 8, before, after)
         }),
         ("the enable doubleword", |given, before, after| {
-            elsewhere(given, 16 * given.doubleword + 8, before, after)
+            elsewhere(given, |number| 16 * number + 8, before, after)
         }),
         ("the one after it", |given, before, after| {
-            elsewhere(given, 16 * (given.doubleword + 1), before, after)
+            elsewhere(given, |number| 16 * (number + 1), before, after)
         }),
         ("the one before it", |given, before, after| {
-            let before_it = given.doubleword.saturating_sub(1);
-            elsewhere(given, 16 * before_it, before, after)
+            elsewhere(given, |number| 16 * number.saturating_sub(1), before, after)
         }),
         ("from the last one on", |given, before, after| {
-            elsewhere(given, 16 * (31 - given.doubleword), before, after)
+            elsewhere(given, |number| 16 * (31 - number), before, after)
         }),
     ];
     for (name, wrong) in wrongs {
@@ -594,7 +596,8 @@ fn masks_of_one_bit() {
     ];
     find_masks(&of_mask, 1);
     let of_waiting: [(&str, WrongTake); 1] = [("the lowest that waits", |given, before, after| {
-        let waiting = given.mask & word(before, given.place());
+        let pending = given.answered().map(|_| word(before, given.place()));
+        let waiting = given.mask & pending.unwrap_or(0);
         masked(given, waiting & waiting.wrapping_neg(), before, after)
     })];
     find_masks(&of_waiting, 2);
