@@ -1,5 +1,5 @@
 -- What becomes of what the tables say, by the tests that the code makes. Assumes nothing.
-use Prim.Native.Nat.{ℕ, _%_, _<_}
+use Prim.Native.Nat.{ℕ, _*_, _/_, _%_, _<_}
 use mathlib.Core.Bool.{Bool, true, false, _&&_, _||_, not}
 use mathlib.Core.List.{List}
 use mathlib.Core.Path.{_≡_, refl, sym, ap, subst, _∙_}
@@ -8,7 +8,7 @@ use lib.Dec.{eqb, leb}
 use lib.ListN.{length}
 use borrow.Author.Tests.{eq-eqb, ne-eqb, leb-true}
 use Rattle.memory.specs.declared.Starts.{Starts}
-use Rattle.memory.specs.Window.{lent, Leaves, memory}
+use Rattle.memory.specs.Window.{inside, lent, Leaves, memory}
 use Rattle.memory.specs.Choice.{pick, unlessRefused}
 use Rattle.memory.specs.Walk.{run}
 use Rattle.causes.specs.declared.FaultInfo.{FaultInfo}
@@ -61,6 +61,11 @@ storable-low q n = go (isWrite (q .access)) (eqb (q .length) 4) (eqb (q .address
     go true true false e h t = let z : _≡_ {A = ℕ} 0 1 = cc in omega arith
     go true false c e h t = let z : _≡_ {A = ℕ} 0 1 = cc in omega arith
     go false b c e h t = let z : _≡_ {A = ℕ} 0 1 = cc in omega arith
+
+-- over tables
+pub over-by : (r : Recording) (page : ℕ) (x y : Bool) → page ≡ r .destination .file / 4096 * 4096 → x ≡ inside page 4096 (r .context) 64 → y ≡ inside page 4096 (r .entry) 16
+    → (x || y) ≡ overTables r
+over-by r page x y e h k = rw (h, k, e)
 
 -- a message to a file
 module _ (starts : Starts) (xs ys : List ℕ) (q : DeviceRequest) (value n : ℕ) (r : Recording) (s : Bool)

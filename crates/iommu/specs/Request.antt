@@ -8,7 +8,7 @@ use lib.ListN.{length}
 use Rattle.memory.specs.Choice.{pick, firstBad, unlessRefused}
 use Rattle.memory.specs.Bits.{bits}
 use Rattle.memory.specs.declared.Starts.{Starts}
-use Rattle.memory.specs.Window.{Window, Lent, lent, holds, byteAt, memory}
+use Rattle.memory.specs.Window.{Window, Lent, inside, lent, holds, byteAt, memory}
 use Rattle.memory.specs.Walk.{run, trace}
 use Rattle.causes.specs.Causes.{isWrite}
 use Rattle.interrupt_file.specs.File.{afterStore}
@@ -40,13 +40,13 @@ storableAs q identity =
 abbrev pub storable : DeviceRequest → ℕ → Bool
 storable q d = storableAs q (identityOf q d)
 
--- two addresses in one 4 KiB page
-abbrev pub samePage : ℕ → ℕ → Bool
-samePage a b = eqb (a / 4096) (b / 4096)
+-- the 4 KiB page in which a file lies holds all of some bytes
+abbrev pub pageHolds : ℕ → ℕ → ℕ → Bool
+pageHolds file a size = inside (file / 4096 * 4096) 4096 a size
 
--- "its file lies in the 4 KiB page that holds the request's device context or its message entry" (02, Req 06)
+-- "its file lies in the 4 KiB page that holds the request's device context or its message entry" (02, Req 06), which have 64 bytes and 16
 abbrev pub overTables : Recording → Bool
-overTables r = samePage (r .destination .file) (r .context) || samePage (r .destination .file) (r .entry)
+overTables r = pageHolds (r .destination .file) (r .context) 64 || pageHolds (r .destination .file) (r .entry) 16
 
 -- the checks of a store: "a storable message whose file is outside the window (last of all)"; "Refuse a store with 2012 .. This comes after 2007" (02, Req 06). n and m are the windows' lengths
 abbrev pub storeRefusal : Starts → ℕ → ℕ → Recording → ℕ

@@ -81,12 +81,12 @@ const OUTSIDE: u64 = 2007;
 
 const OVER_TABLES: u64 = 2012;
 
-// Whether a file lies in the page of the device context or of the message entry that lead to it.
+// Whether a file's page holds the device context or the message entry that lead to it.
 fn over_tables(r: Recording) -> bool
     ensures { λ b. ⌜ b ≡ overTables r ⌝ }
 {
-    let page = r.destination.file / 4096;
-    (page == r.context / 4096) | (page == r.entry / 4096)
+    let page = r.destination.file / 4096 * 4096;
+    memory::within(page, 4096, r.context, 64) | memory::within(page, 4096, r.entry, 16)
 }
 
 // The refusal of a store over tables, which comes after that of a file in neither window.
