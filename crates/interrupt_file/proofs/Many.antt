@@ -1,7 +1,7 @@
 -- The take of many: the pending bits and the bytes that it leaves, that one store of its doubleword makes them, and that of one bit it is the take of one. Assumes nothing.
 use Prim.Native.Nat.{ℕ, zero, suc, _+_, _-_, _*_, _/_, _%_, _^_, _≤_, _<_}
 use mathlib.Core.Bool.{Bool, true, false, not, _&&_}
-use mathlib.Core.List.{List, [], _∷_, _++_}
+use mathlib.Core.List.{List, _++_}
 use mathlib.Core.Path.{_≡_, refl, sym, ap, ap₂, subst, _∙_}
 use mathlib.Core.Logic.{_⊎_, inl, inr}
 use native.Mathlib.Nat.{add-zero, div-one, mod-eq-of-lt, mod-lt, one-mul, zero-mul}
@@ -19,7 +19,7 @@ use Rattle.memory.specs.Choice.{pick}
 use Rattle.memory.specs.Code.{eight}
 use Rattle.memory.specs.Window.{doubleword}
 use Rattle.memory.proofs.Loads.{part-word}
-use Rattle.memory.proofs.Truth.{and-true}
+use Rattle.memory.proofs.Truth.{true-false, and-on, and-off, and-true}
 use Rattle.word.specs.Word.{contains, wordOf}
 use Rattle.word.proofs.Bits.{bit-and, bit-without, bit-pow, bit-mod, bit-shr, word-low, word-ext, word-bit, word-lt, same-bits, zero-digit}
 use Rattle.interrupt_file.specs.Bit.{bitAt}
@@ -28,9 +28,6 @@ use Rattle.interrupt_file.proofs.Bytes.{Bytes, take-bytes, doubleword-l
 use Rattle.interrupt_file.proofs.Files.{file-at, lent, back}
 use Rattle.interrupt_file.proofs.Pending.{length-after-take, pending-lt, pending-taken, pending-take-other, take-kept}
 use Rattle.interrupt_file.proofs.Doublewords.{pending-bit}
-
-true-false : true ≡ false → ⊥
-true-false e = let z : _≡_ {A = ℕ} 0 1 = cc in omega arith
 
 -- a byte of the eight
 eight-byte : (v : ℕ) (zs : List ℕ) (j : ℕ) → j < 8 → getD (eight v ++ zs) j 0 ≡ v / 2 ^ (8 * j) % 2 ^ 8
@@ -250,25 +247,17 @@ module _ (start : ℕ) (xs : List ℕ) (file d mask : ℕ) where
       bit-after : (j k : ℕ) → j < 8 → k < 8 → contains (getD (to 64) (at + j) 0) k ≡ (contains before (8 * j + k) && not (contains mask (8 * j + k)))
       bit-after j k lj lk = bit-pending j k lj lk ∙ go (contains mask (8 * j + k)) refl
         where
-          and-on : (b : Bool) → b ≡ (b && true)
-          and-on true = refl
-          and-on false = refl
-
-          and-off : (b : Bool) → false ≡ (b && false)
-          and-off true = refl
-          and-off false = refl
-
           differs : (r : ℕ) → contains mask r ≡ true → contains mask (8 * j + k) ≡ false → 64 * d + (8 * j + k) ≡ 64 * d + r → ⊥
           differs r c o e = true-false (sym c ∙ ap (contains mask) (let q : r ≡ 8 * j + k = omega arith in q) ∙ o)
 
           go : (b : Bool) → contains mask (8 * j + k) ≡ b
               → eqb (pendingOf start (to 64) file (64 * d + (8 * j + k))) 1 ≡ (contains before (8 * j + k) && not b)
           go true e =
-              ap (λ (v : ℕ). eqb v 1) (pending-cleared 64 (8 * j + k) (omega arith) (omega arith) e) ∙ and-off (contains before (8 * j + k))
+              ap (λ (v : ℕ). eqb v 1) (pending-cleared 64 (8 * j + k) (omega arith) (omega arith) e) ∙ sym (and-off (contains before (8 * j + k)))
           go false e =
               ap (λ (v : ℕ). eqb v 1)
               (pending-left file (64 * d + (8 * j + k)) hf (identity-lt (8 * j + k) (omega arith)) 64 (omega arith) (λ r l c x y. differs r c e y))
-              ∙ sym (pending-is (8 * j + k) (omega arith)) ∙ and-on (contains before (8 * j + k))
+              ∙ sym (pending-is (8 * j + k) (omega arith)) ∙ sym (and-on (contains before (8 * j + k)))
 
       byte-after : (j : ℕ) → j < 8 → without before mask / 2 ^ (8 * j) % 2 ^ 8 ≡ getD (to 64) (at + j) 0
       byte-after j lj =
@@ -370,15 +359,11 @@ module _ (start : ℕ) (xs : List ℕ) (file n : ℕ) where
       and-none true = refl
       and-none false = refl
 
-      and-one : (b : Bool) → (b && true) ≡ b
-      and-one true = refl
-      and-one false = refl
-
       go : (p : ℕ) → pendingOf start xs file n ≡ p → p < 2
           → wordOf 64 (λ k. contains (2 ^ (n % 64)) k && eqb (pendingOf start xs file (64 * (n / 64) + k)) 1) ≡ p * 2 ^ (n % 64)
       go zero h l =
           word-ext 64 _ _ (λ k q. digit-is false (rw h) k ∙ and-none (eqb k (n % 64)) ∙ sym (zero-digit k)) ∙ sym (word-low 64 0) ∙ sym (zero-mul (2 ^ (n % 64)))
       go (suc zero) h l =
-          word-ext 64 _ _ (λ k q. digit-is true (rw h) k ∙ and-one (eqb k (n % 64)) ∙ sym (bit-pow k (n % 64))) ∙ sym (word-low 64 (2 ^ (n % 64)))
+          word-ext 64 _ _ (λ k q. digit-is true (rw h) k ∙ and-on (eqb k (n % 64)) ∙ sym (bit-pow k (n % 64))) ∙ sym (word-low 64 (2 ^ (n % 64)))
           ∙ mod-eq-of-lt (pow-lt {i = n % 64} {j = 64} (omega arith)) ∙ sym (one-mul (2 ^ (n % 64)))
       go (suc (suc p)) h l = absurd (omega arith)

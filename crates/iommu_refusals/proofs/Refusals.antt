@@ -9,6 +9,7 @@ use borrow.Author.Tests.{ne-eqb, eqb-true, eqb-false, lt-ltb, le-ltb, ltb-false,
 use Rattle.memory.specs.Choice.{pick, firstBad}
 use Rattle.memory.specs.Code.{Paged, Walkable}
 use Rattle.memory.specs.declared.Starts.{Starts}
+use Rattle.memory.proofs.Truth.{true-false}
 use Rattle.memory.proofs.Choices.{ltb-same}
 use Rattle.directory_process.specs.declared.ProcessId.{ProcessId}
 use Rattle.directory_process.specs.declared.ProcessId.the-variants.{Absent, Given}
@@ -22,16 +23,6 @@ use Rattle.iommu_refusals.specs.Code.{offPages, tooLarge, windowRefusal,
 -- a number that the code gives is the definition's
 pub is-number : {n r : ℕ} (k : ℕ) → k ≡ r → n ≡ k → n ≡ r
 is-number k h e = e ∙ h
-
-no-way : _≡_ {A = ℕ} 0 1 → ⊥
-no-way e = omega arith
-
-abbrev number : Bool → ℕ
-number true = 1
-number false = 0
-
-true-false : true ≡ false → ⊥
-true-false h = no-way (sym (ap number h))
 
 -- 2001: four tests joined, and two windows' ends
 either : (a b c d x y : Bool) → (((a || b) || c) || d) ≡ true → true ≡ ((a || (b || x)) || (c || (d || y)))

@@ -5,7 +5,6 @@ use mathlib.Core.List.{List}
 use mathlib.Core.Path.{_≡_, refl, sym, ap, _∙_, subst}
 use borrow.Author.Tests.{lt-ltb, le-ltb, ne-eqb}
 use lib.ListN.{length}
-use Rattle.memory.specs.Choice.{pick}
 use Rattle.memory.specs.declared.Load.{Load}
 use Rattle.memory.specs.declared.Starts.{Starts}
 use Rattle.memory.specs.Window.{lent, memory}

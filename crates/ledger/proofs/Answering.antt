@@ -12,6 +12,7 @@ use Rattle.memory.specs.Choice.{pick, unlessRefused}
 use Rattle.memory.specs.declared.Starts.{Starts}
 use Rattle.memory.specs.Window.{Lent, memory}
 use Rattle.memory.specs.Walk.{run}
+use Rattle.memory.proofs.Truth.{no-way}
 use Rattle.message.specs.declared.Destination.{Destination}
 use Rattle.iommu_refusals.specs.declared.DeviceRequest.{DeviceRequest}
 use Rattle.iommu_translation.specs.declared.Recording.{Recording}
@@ -29,9 +30,6 @@ use Rattle.iommu_files.specs.declared.Numbers.{Numbers}
 use Rattle.iommu.specs.Operations.{Op, request, take, takeMany, startsOf, settings, answerOf}
 use Rattle.ledger.specs.Ledger.{store, nothing, opEvent}
 use Rattle.ledger.specs.Closes.{recording, Storing, takeRefused, takeManyRefused, noticesOf, noticeGiven}
-
-pub no-way : _≡_ {A = ℕ} 0 1 → ⊥
-no-way e = omega arith
 
 -- 3: stored, exactly when
 finish-stores : (starts : Starts) (n m : ℕ) (q : DeviceRequest) (value : ℕ) (d : Destination) (o : Outcome) → finish starts n m q value o ≡ Stored d

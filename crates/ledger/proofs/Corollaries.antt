@@ -1,13 +1,13 @@
 -- What a buyer asks next: nothing is lost, nothing is invented, and the change in pending bits. Assumes nothing.
 use Prim.Native.Nat.{ℕ, _+_, _*_, _/_, _%_, _<_}
 use mathlib.Core.Path.{_≡_, refl, sym, ap, _∙_}
-use mathlib.Core.Bool.{Bool, true, false, _&&_}
+use mathlib.Core.Bool.{true, false, _&&_}
 use mathlib.Core.Logic.{_↔_}
 use mathlib.Core.List.{List, [], _∷_}
 use native.Mathlib.Omega.{arith}
 use borrow.Author.Tests.{eq-eqb, eqb-true}
 use lib.Dec.{eqb}
-use Rattle.memory.proofs.Truth.{and-true}
+use Rattle.memory.proofs.Truth.{and-off, and-true}
 use Rattle.word.specs.Word.{contains}
 use Rattle.word.proofs.Bits.{word-bit}
 use Rattle.iommu_files.specs.declared.Answer.the-variants.{Taken}
@@ -22,10 +22,6 @@ use Rattle.ledger.specs.Sums.{total, among, Different, opStores, opTakes
 use Rattle.ledger.specs.Closes.{Closes, Comes, Counted, AllCounted, takeRefused, takeManyRefused, answerAt, accountAfter, pendingAfter}
 use Rattle.ledger.specs.Whole.{NoTake, NoTakes}
 use Rattle.ledger.proofs.Counting.{oneStore, oneTake, tally, tally-append, request-no-take, account-stores, account-takes}
-
-and-off : (b : Bool) → (b && false) ≡ false
-and-off true = refl
-and-off false = refl
 
 -- with no successful take a mark that waits goes on waiting, and a store makes it wait
 module _ {C : Type 0} (event : C → Event) where

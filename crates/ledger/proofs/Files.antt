@@ -13,7 +13,7 @@ use Rattle.interrupt_file.proofs.Files.{file-at, is-file}
 use Rattle.ledger.specs.Places.{Side, firstWindow, secondWindow, windowOf, Place, place, sameSide, samePlace, liesIn, isPlace}
 use Rattle.ledger.specs.Sums.{listed, among, Different, Places}
 use Rattle.ledger.specs.Whole.{filesFrom, firstFile, windowFiles, allFiles}
-use Rattle.ledger.proofs.Sides.{true-false}
+use Rattle.memory.proofs.Truth.{true-false}
 
 and-no : (b : Bool) → (b && false) ≡ false
 and-no true = refl

@@ -2,7 +2,7 @@
 use Prim.Native.Nat.{ℕ, zero, suc, _+_, _-_, _*_, _/_, _%_, _^_, _<_}
 use mathlib.Core.Path.{_≡_, refl, sym, ap, subst, _∙_}
 use mathlib.Core.Bool.{Bool, true, false, _&&_}
-use mathlib.Core.List.{List, [], _∷_}
+use mathlib.Core.List.{List}
 use native.Mathlib.Omega.{arith}
 use borrow.Author.Tests.{eq-eqb, ne-eqb, eqb-true, eqb-false, leb-true}
 use lib.Dec.{eqb, leb}
@@ -10,7 +10,7 @@ use lib.ListN.{length, getD}
 use lib.Seq.{getD-set-other}
 use Rattle.memory.specs.Choice.{pick, unlessRefused}
 use Rattle.memory.specs.Window.{Window, Lent, lent, holds, byteAt}
-use Rattle.memory.proofs.Truth.{and-true}
+use Rattle.memory.proofs.Truth.{no-way, true-false, and-true}
 use Rattle.word.specs.Word.{contains}
 use Rattle.interrupt_file.specs.File.{isFile, placeOf, pendingOf, afterStore, takenOf, afterTakeMany}
 use Rattle.interrupt_file.proofs.Files.{file-at}
@@ -30,9 +30,9 @@ use Rattle.ledger.specs.Closes.{takeManyRefused}
 use Rattle.ledger.specs.Machine.{Asked, asks, asksNothing, Machine, callOf, leftBy, AllGranted}
 use Rattle.ledger.specs.Ledger.{Event, store, successfulTake, nothing, opEvent, askedEvent, eventOf, pendingIn}
 use Rattle.ledger.proofs.Machine.{step, Told, Keeps, kept-by-all}
-use Rattle.ledger.proofs.Answering.{no-way, starts, xs, ys, Apart, stored-storing, stored-low, storing-apart, many-passed}
+use Rattle.ledger.proofs.Answering.{starts, xs, ys, Apart, stored-storing, stored-low, storing-apart, many-passed}
 use Rattle.ledger.proofs.Ones.{one-event, one-leaves}
-use Rattle.ledger.proofs.Sides.{true-false, side-changed, side-answered}
+use Rattle.ledger.proofs.Sides.{side-changed, side-answered}
 
 -- a machine whose calls answer and leave what the routines do for the operations that they ask; a call that asks none is refused, and leaves all
 abbrev pub Faith : Asked → Numbers → Lent → Lent → Type 0

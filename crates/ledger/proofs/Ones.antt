@@ -1,5 +1,5 @@
 -- A take of one identity is, to every identity and in every byte, the take of many with its bit alone. Assumes nothing.
-use Prim.Native.Nat.{ℕ, zero, suc, _+_, _*_, _/_, _%_, _^_, _<_}
+use Prim.Native.Nat.{ℕ, zero, suc, _*_, _/_, _%_, _^_, _<_}
 use mathlib.Core.Path.{_≡_, refl, sym, ap, ap₂, _∙_}
 use mathlib.Core.Bool.{Bool, true, false, _&&_}
 use native.Mathlib.Nat.{add-zero, one-mul, zero-mul}
@@ -10,6 +10,7 @@ use lib.Count.{ones, ones-cat}
 use lib.Dec.{eqb}
 use lib.ListN.{length}
 use lib.Pow.{pow-pos}
+use Rattle.memory.proofs.Truth.{and-on, and-off}
 use Rattle.memory.specs.Choice.{pick, unlessRefused}
 use Rattle.memory.specs.Window.{Lent}
 use Rattle.word.specs.Word.{contains}
@@ -21,21 +22,11 @@ use Rattle.iommu_files.specs.Answers.{numbersOf}
 use Rattle.iommu_files.specs.Files.{pendingAt, answeredAt, takeOf, takeManyOf}
 use Rattle.iommu_files.proofs.Files.{same-refusal, one-answered, one-after}
 use Rattle.iommu.specs.Operations.{Op, take, takeMany, answerOf, afterOf}
-use Rattle.ledger.specs.Ledger.{Event, successfulTake, nothing, opEvent}
+use Rattle.ledger.specs.Ledger.{successfulTake, nothing, opEvent}
 use Rattle.ledger.specs.Sums.{opTakes}
 use Rattle.ledger.specs.Closes.{takeRefused, takeManyRefused}
 use Rattle.ledger.proofs.Answering.{starts, xs, ys}
 use Rattle.ledger.proofs.SumLaws.{ones-none}
-
-and-off : (a b : Bool) → (a && false) ≡ (b && false)
-and-off true true = refl
-and-off true false = refl
-and-off false true = refl
-and-off false false = refl
-
-and-on : (a : Bool) → (a && true) ≡ a
-and-on true = refl
-and-on false = refl
 
 -- the one bit of its doubleword is the identity
 same-bit : (i n : ℕ) → eqb i n ≡ (eqb (i / 64) (n / 64) && eqb (n % 64) (i % 64))
@@ -52,7 +43,7 @@ same-bit i n = go (ℕ-discrete i n) (ℕ-discrete (i / 64) (n / 64))
 bit-of : (p i n : ℕ) → p < 2 → (eqb i n && eqb p 1) ≡ (eqb (i / 64) (n / 64) && contains (p * 2 ^ (i % 64)) (n % 64))
 bit-of zero i n l =
     let z : contains (0 * 2 ^ (i % 64)) (n % 64) ≡ false = ap (λ (v : ℕ). contains v (n % 64)) (zero-mul (2 ^ (i % 64))) ∙ zero-digit (n % 64) in
-    rw z (and-off (eqb i n) (eqb (i / 64) (n / 64)))
+    rw z (and-off (eqb i n) ∙ sym (and-off (eqb (i / 64) (n / 64))))
 bit-of (suc zero) i n l =
     let o : contains (1 * 2 ^ (i % 64)) (n % 64) ≡ eqb (n % 64) (i % 64) = ap (λ (v : ℕ). contains v (n % 64)) (one-mul (2 ^ (i % 64))) ∙ bit-pow (n % 64) (i % 64) in
     rw o (and-on (eqb i n) ∙ same-bit i n)

@@ -8,19 +8,13 @@ use borrow.Author.Tests.{lt-ltb, ne-eqb}
 use lib.ListN.{length}
 use Rattle.memory.specs.Choice.{pick}
 use Rattle.memory.specs.Window.{Lent}
+use Rattle.memory.proofs.Truth.{true-false}
 use Rattle.interrupt_file.specs.File.{pendingOf, takenOf}
 use Rattle.interrupt_file.proofs.Files.{file-at}
 use Rattle.iommu_refusals.specs.Refusals.{overlap, isLentFile}
 use Rattle.iommu_files.specs.Files.{changedAt, pendingAt, answeredAt}
 use Rattle.ledger.specs.Places.{Side, firstWindow, secondWindow, windowOf, liesIn}
-use Rattle.ledger.proofs.Answering.{no-way, starts, xs, ys, Apart}
-
-abbrev number : Bool → ℕ
-number true = 1
-number false = 0
-
-pub true-false : true ≡ false → ⊥
-true-false e = no-way (sym (ap number e))
+use Rattle.ledger.proofs.Answering.{starts, xs, ys, Apart}
 
 -- a file that lies in both windows is where they overlap
 pub both-overlap : (l : Lent) (file : ℕ) → liesIn (l .first) file ≡ true → liesIn (l .second) file ≡ true → Apart l → ⊥

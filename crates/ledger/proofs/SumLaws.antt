@@ -18,7 +18,8 @@ use Rattle.interrupt_file.proofs.Bits.{bit-zero, bit-suc, bit-lt}
 use Rattle.ledger.specs.Places.{Side, firstWindow, secondWindow, windowOf, Place, sameSide, samePlace, liesIn, isPlace}
 use Rattle.ledger.specs.Sums.{sumTo, ofFile, total, listed, among, Different, Places}
 use Rattle.ledger.proofs.Answering.{Apart}
-use Rattle.ledger.proofs.Sides.{true-false, both-overlap}
+use Rattle.memory.proofs.Truth.{true-false}
+use Rattle.ledger.proofs.Sides.{both-overlap}
 
 -- of the identities below k
 pub to-ext : (k : ℕ) (g h : ℕ → ℕ) → ((n : ℕ) → n < k → g n ≡ h n) → sumTo k g ≡ sumTo k h

@@ -20,7 +20,7 @@ use Rattle.ledger.specs.Closes.{AllCounted, takeManyRefused, accountAfte
 use Rattle.ledger.specs.Whole.{allFiles}
 use Rattle.ledger.proofs.Answering.{starts, xs, ys, stored-storing, many-passed}
 use Rattle.ledger.proofs.Ones.{one-weight}
-use Rattle.ledger.proofs.Sides.{true-false}
+use Rattle.memory.proofs.Truth.{true-false}
 use Rattle.ledger.proofs.Keeping.{Same, same-held, step-same}
 use Rattle.ledger.proofs.Files.{files-different, files-are, files-all}
 use Rattle.ledger.proofs.Corollaries.{change}

@@ -40,7 +40,7 @@ use Rattle.iommu_translation.specs.declared.Outcome.{Outcome}
 use Rattle.iommu.specs.Operations.{answerOf, afterOf}
 use Rattle.ledger.specs.Machine.{Machine, asks}
 use Rattle.ledger.proofs.Instance.{memories, writeTo, write, far}
-use Rattle.ledger.proofs.Answering.{no-way}
+use Rattle.memory.proofs.Truth.{no-way}
 use lib.ListN.{set}
 
 -- it answers everything 6, and overwrites the first byte: that of the device's V and, in the file there, that of no identity's event

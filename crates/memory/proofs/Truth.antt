@@ -2,6 +2,7 @@
 use Prim.Native.Nat.{ℕ, zero, suc}
 use mathlib.Core.Bool.{Bool, true, false, not, _&&_}
 use mathlib.Core.Path.{_≡_, refl, sym}
+use native.Mathlib.Omega.{arith}
 
 -- a test of n flags
 abbrev pub Row : ℕ → Type 0
@@ -15,6 +16,22 @@ all (suc n) f = all n (f true) && all n (f false)
 abbrev pub Holds : (n : ℕ) → Row n → Type 0
 Holds zero f = f ≡ true
 Holds (suc n) f = (b : Bool) → Holds n (f b)
+
+-- two constructors are not one
+pub no-way : _≡_ {A = ℕ} 0 1 → ⊥
+no-way e = omega arith
+
+pub true-false : true ≡ false → ⊥
+true-false e = no-way cc
+
+-- a conjunction with a known part
+pub and-on : (b : Bool) → (b && true) ≡ b
+and-on true = refl
+and-on false = refl
+
+pub and-off : (b : Bool) → (b && false) ≡ false
+and-off true = refl
+and-off false = refl
 
 -- both parts of a conjunction
 pub and-true : (a b : Bool) → (a && b) ≡ true → (a ≡ true) × (b ≡ true)

@@ -3,6 +3,7 @@ use Prim.Native.Nat.{ℕ}
 use mathlib.Core.List.{List, [], _∷_, _++_}
 use mathlib.Core.Path.{_≡_, refl, sym, ap, _∙_}
 use Rattle.memory.specs.declared.Load.{Load}
+use Rattle.memory.specs.declared.Load.the-variants.{Value}
 use Rattle.memory.specs.Walk.{Walk, done, load, bind, run, trace}
 
 -- a composed walk's result, and the addresses that it reads
@@ -13,6 +14,10 @@ run-bind m (load p k) f = run-bind m (k (m p)) f
 pub trace-bind : {A B : Type 0} (m : ℕ → Load) (w : Walk A) (f : A → Walk B) → trace m (bind w f) ≡ trace m w ++ trace m (f (run m w))
 trace-bind m (done a) f = refl
 trace-bind m (load p k) f = ap (λ t. p ∷ t) (trace-bind m (k (m p)) f)
+
+-- a memory has a doubleword at an address
+abbrev pub Read : (ℕ → Load) → ℕ → Type 0
+Read m a = (v : ℕ) × (m a ≡ Value v)
 
 -- two memories have the same doubleword at each address of a list
 pub data Agree (m n : ℕ → Load) : List ℕ → Type 0 where

@@ -1,0 +1,89 @@
+-- Where a device context that was found lies. Assumes nothing.
+use Prim.Native.Nat.{ℕ, zero, suc, _+_, _-_, _*_, _%_}
+use mathlib.Core.Bool.{Bool, true, false}
+use mathlib.Core.Path.{_≡_, refl, sym, subst}
+use native.Mathlib.Omega.{arith}
+use Rattle.memory.specs.Choice.{pick}
+use Rattle.memory.specs.Bits.{bit}
+use Rattle.memory.specs.declared.Load.{Load}
+use Rattle.memory.specs.declared.Load.the-variants.{Value, Violation}
+use Rattle.memory.specs.Walk.{Walk, done, onValue, run}
+use Rattle.memory.proofs.Walks.{Read, run-bind}
+use Rattle.paging.specs.Stages.{direct}
+use Rattle.paging_entry.specs.declared.Translation.{Translation}
+use Rattle.paging_entry.specs.declared.Translation.the-variants.{To}
+use Rattle.directory_entry.specs.declared.Tree.the-variants.{Device}
+use Rattle.directory_entry.specs.Entries.{loadFault, invalid, misconfigured, directoryIndex, pointerOf}
+use Rattle.directory_walk.specs.Pointers.{onPointed, leafPlace}
+use Rattle.directory_context.specs.declared.DeviceContext.{DeviceContext}
+use Rattle.directory_context.specs.Device.{deviceMisconfigured, decodedOf}
+use Rattle.directory_device.specs.declared.DeviceFound.{DeviceFound}
+use Rattle.directory_device.specs.declared.DeviceFound.the-variants.{Context, Fault}
+use Rattle.directory_device.specs.Device.{checkedDevice, deviceWord, deviceContextAt, onDevicePlace, deviceContextOf}
+use Rattle.directory_device.proofs.Device.{rest, next-page}
+
+-- a context is at a multiple of 64, and was read
+abbrev pub ContextPlaced : (ℕ → Load) → DeviceFound → Type 0
+ContextPlaced m (Context c) = (c .address % 64 ≡ 0) × Read m (c .address)
+ContextPlaced m (Fault f) = Unit {0}
+
+abbrev LeafPlaced : Translation → Type 0
+LeafPlaced (To a) = a % 64 ≡ 0
+LeafPlaced (Translation.Fault f) = Unit {0}
+
+module _ (m : ℕ → Load) where
+  leaf-placed : (d i table : ℕ) → table % 4096 ≡ 0 → LeafPlaced (run m (leafPlace Device d direct i table))
+  unfolding leafPlace
+  leaf-placed d zero table h = omega arith
+  leaf-placed d (suc i) table h = go (pointerOf Device v) refl (leaf-placed d i)
+    where
+      v : Load
+      v = m (table + 8 * directoryIndex Device d (suc i))
+
+      go : (t : Translation) → pointerOf Device v ≡ t → ((k : ℕ) → k % 4096 ≡ 0 → LeafPlaced (run m (leafPlace Device d direct i k)))
+          → LeafPlaced (run m (onPointed (leafPlace Device d direct i) t))
+      go (To k) e next = next k (next-page Device v (To k) k (sym e) refl)
+      go (Translation.Fault f) e next = tt
+
+  module _ (a : ℕ) (aligned : a % 64 ≡ 0) where
+    checked-placed : (c : DeviceContext) → Read m a → ContextPlaced m (checkedDevice a c)
+    checked-placed c read = go (deviceMisconfigured c)
+      where
+        go : (b : Bool) → ContextPlaced m (pick b (Fault (misconfigured Device)) (Context (decodedOf a c)))
+        go true = tt
+        go false = (aligned, read)
+
+    word-placed : (p : ℕ) (k : ℕ → Walk DeviceFound) → ((w : ℕ) → ContextPlaced m (run m (k w))) → ContextPlaced m (run m (deviceWord p k))
+    word-placed p k h = go (m p)
+      where
+        go : (v : Load) → ContextPlaced m (run m (onValue (done (Fault (loadFault Device))) k v))
+        go (Value w) = h w
+        go Violation = tt
+
+    context-placed : ContextPlaced m (run m (deviceContextAt a))
+    unfolding deviceContextAt
+    context-placed = first (m a) refl
+      where
+        valid : (tc : ℕ) → Read m a → (b : Bool) → ContextPlaced m (run m (pick b (rest a tc) (done (Fault (invalid Device)))))
+        valid tc read false = tt
+        valid tc read true =
+            word-placed (a + 8) _
+            (λ g.
+            word-placed (a + 16) _
+            (λ t.
+            word-placed (a + 24) _
+            (λ f. word-placed (a + 32) _ (λ p. word-placed (a + 40) _ (λ k. word-placed (a + 48) _ (λ n. word-placed (a + 56) _ (λ z. checked-placed _ read)))))))
+
+        first : (v : Load) → m a ≡ v → ContextPlaced m (run m (onValue (done (Fault (loadFault Device))) (λ w. pick (bit w 0) (rest a w) (done (Fault (invalid Device)))) v))
+        first (Value tc) h = valid tc (tc, h) (bit tc 0)
+        first Violation h = tt
+
+  pub device-placed : (levels root d : ℕ) → ContextPlaced m (run m (deviceContextOf levels root d))
+  unfolding deviceContextOf
+  device-placed levels root d =
+      subst (ContextPlaced m) (sym (run-bind m (leafPlace Device d direct (levels - 1) (root * 4096)) onDevicePlace))
+      (go (run m (leafPlace Device d direct (levels - 1) (root * 4096))) (leaf-placed d (levels - 1) (root * 4096) (omega arith)))
+    where
+      go : (t : Translation) → LeafPlaced t → ContextPlaced m (run m (onDevicePlace t))
+      go (To a) h = context-placed a h
+      go (Translation.Fault f) h = tt
