@@ -71,7 +71,7 @@ module _ (a tc : ℕ) where
   abbrev read1 : ℕ → Walk DeviceFound
   read1 g = deviceWord (a + 16) (read2 g)
 
-  abbrev pub rest : Walk DeviceFound
+  abbrev rest : Walk DeviceFound
   rest = deviceWord (a + 8) read1
 
 abbrev unread : DeviceFound

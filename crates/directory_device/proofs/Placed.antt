@@ -6,21 +6,20 @@ use native.Mathlib.Omega.{arith}
 use Rattle.memory.specs.Choice.{pick}
 use Rattle.memory.specs.Bits.{bit}
 use Rattle.memory.specs.declared.Load.{Load}
-use Rattle.memory.specs.declared.Load.the-variants.{Value, Violation}
-use Rattle.memory.specs.Walk.{Walk, done, onValue, run}
-use Rattle.memory.proofs.Walks.{Read, run-bind}
+use Rattle.memory.specs.Walk.{run}
+use Rattle.memory.proofs.Walks.{Read, run-bind, run-pick, run-load}
 use Rattle.paging.specs.Stages.{direct}
 use Rattle.paging_entry.specs.declared.Translation.{Translation}
 use Rattle.paging_entry.specs.declared.Translation.the-variants.{To}
 use Rattle.directory_entry.specs.declared.Tree.the-variants.{Device}
-use Rattle.directory_entry.specs.Entries.{loadFault, invalid, misconfigured, directoryIndex, pointerOf}
+use Rattle.directory_entry.specs.Entries.{misconfigured, directoryIndex, pointerOf}
 use Rattle.directory_walk.specs.Pointers.{onPointed, leafPlace}
 use Rattle.directory_context.specs.declared.DeviceContext.{DeviceContext}
 use Rattle.directory_context.specs.Device.{deviceMisconfigured, decodedOf}
 use Rattle.directory_device.specs.declared.DeviceFound.{DeviceFound}
 use Rattle.directory_device.specs.declared.DeviceFound.the-variants.{Context, Fault}
-use Rattle.directory_device.specs.Device.{checkedDevice, deviceWord, deviceContextAt, onDevicePlace, deviceContextOf}
-use Rattle.directory_device.proofs.Device.{rest, next-page}
+use Rattle.directory_device.specs.Device.{checkedDevice, deviceContextAt, onDevicePlace, deviceContextOf}
+use Rattle.directory_device.proofs.Device.{next-page}
 
 -- a context is at a multiple of 64, and was read
 abbrev pub ContextPlaced : (ℕ → Load) → DeviceFound → Type 0
@@ -53,30 +52,25 @@ module _ (m : ℕ → Load) where
         go true = tt
         go false = (aligned, read)
 
-    word-placed : (p : ℕ) (k : ℕ → Walk DeviceFound) → ((w : ℕ) → ContextPlaced m (run m (k w))) → ContextPlaced m (run m (deviceWord p k))
-    word-placed p k h = go (m p)
-      where
-        go : (v : Load) → ContextPlaced m (run m (onValue (done (Fault (loadFault Device))) k v))
-        go (Value w) = h w
-        go Violation = tt
+    -- its eight doublewords, one after another
+    abbrev P : DeviceFound → Type 0
+    P = ContextPlaced m
 
     context-placed : ContextPlaced m (run m (deviceContextAt a))
     unfolding deviceContextAt
-    context-placed = first (m a) refl
-      where
-        valid : (tc : ℕ) → Read m a → (b : Bool) → ContextPlaced m (run m (pick b (rest a tc) (done (Fault (invalid Device)))))
-        valid tc read false = tt
-        valid tc read true =
-            word-placed (a + 8) _
-            (λ g.
-            word-placed (a + 16) _
-            (λ t.
-            word-placed (a + 24) _
-            (λ f. word-placed (a + 32) _ (λ p. word-placed (a + 40) _ (λ k. word-placed (a + 48) _ (λ n. word-placed (a + 56) _ (λ z. checked-placed _ read)))))))
-
-        first : (v : Load) → m a ≡ v → ContextPlaced m (run m (onValue (done (Fault (loadFault Device))) (λ w. pick (bit w 0) (rest a w) (done (Fault (invalid Device)))) v))
-        first (Value tc) h = valid tc (tc, h) (bit tc 0)
-        first Violation h = tt
+    context-placed =
+        run-load m P _ a _ tt
+        (λ tc h.
+        run-pick m P (bit tc 0) _ _
+        (run-load m P _ (a + 8) _ tt
+        (λ g _.
+        run-load m P _ (a + 16) _ tt
+        (λ t _.
+        run-load m P _ (a + 24) _ tt
+        (λ f _.
+        run-load m P _ (a + 32) _ tt
+        (λ p _. run-load m P _ (a + 40) _ tt (λ k _. run-load m P _ (a + 48) _ tt (λ n _. run-load m P _ (a + 56) _ tt (λ z _. checked-placed _ (tc, h)))))))))
+        tt)
 
   pub device-placed : (levels root d : ℕ) → ContextPlaced m (run m (deviceContextOf levels root d))
   unfolding deviceContextOf

@@ -5,10 +5,11 @@ use mathlib.Core.Path.{_≡_, sym, subst}
 use lib.Dec.{eqb, ltb}
 use Rattle.memory.specs.Choice.{pick}
 use Rattle.memory.specs.declared.Load.{Load}
-use Rattle.memory.specs.Walk.{Walk, done, bind, run}
-use Rattle.memory.proofs.Walks.{Read, run-bind}
-use Rattle.causes.specs.Causes.{accessFault, faultAt, disallowed}
+use Rattle.memory.specs.Walk.{Walk, bind, run}
+use Rattle.memory.proofs.Walks.{Read, run-bind, run-pick}
+use Rattle.causes.specs.Causes.{accessFault, faultAt}
 use Rattle.causes.specs.declared.Access.{Access}
+use Rattle.causes.specs.declared.FaultInfo.{FaultInfo}
 use Rattle.causes.specs.declared.Stage.the-variants.{Directory}
 use Rattle.paging.specs.declared.PageTable.{PageTable}
 use Rattle.paging_entry.specs.declared.Purpose.the-variants.{SecondStage}
@@ -27,6 +28,7 @@ use Rattle.directory_process.specs.declared.PageTableInfo.{PageTableInfo}
 use Rattle.directory_process.specs.declared.PageTableInfo.the-variants.{Use}
 use Rattle.directory_process.specs.Process.{firstTableOf}
 use Rattle.message.specs.Table.{messageOf}
+use Rattle.message.specs.declared.Destination.{Destination}
 use Rattle.message.specs.declared.Message.{Message}
 use Rattle.message.specs.declared.Message.the-variants.{Redirect, Record}
 use Rattle.message.proofs.Placed.{EntryPlaced, message-placed}
@@ -35,7 +37,7 @@ use Rattle.iommu_refusals.specs.declared.DeviceRequest.{DeviceRequest}
 use Rattle.iommu_translation.specs.declared.Recording.{Recording}
 use Rattle.iommu_translation.specs.declared.Outcome.{Outcome}
 use Rattle.iommu_translation.specs.declared.Outcome.the-variants.{Translated, Redirected, Recorded, Fault}
-use Rattle.iommu_translation.specs.Translate.{untranslated, onMessage, onSecond, isMessage, guestOf, onFirst, stagesOf, onInfo, onDevice, directoryLevels, directoryOf, translateOf}
+use Rattle.iommu_translation.specs.Translate.{untranslated, isMessage, guestOf, stagesOf, onDevice, directoryLevels, directoryOf, translateOf}
 
 -- file, context and entry lie at multiples of their sizes; the last two were read
 pub record Placed (m : ℕ → Load) (r : Recording) : Type 0 where
@@ -52,88 +54,85 @@ AllPlaced m (Redirected a) = Unit {0}
 AllPlaced m (Fault f) = Unit {0}
 
 module _ (m : ℕ → Load) where
-  -- one walk, and then another
-  after : {A : Type 0} (w : Walk A) (f : A → Walk Outcome) → AllPlaced m (run m (f (run m w))) → AllPlaced m (run m (bind w f))
-  after w f h = subst (AllPlaced m) (sym (run-bind m w f)) h
+  abbrev P : Outcome → Type 0
+  P = AllPlaced m
 
-  untranslated-placed : (x : Access) (a : ℕ) → AllPlaced m (untranslated x a)
+  -- one walk, and then another, by the cases of what the first gives
+  after : {A : Type 0} (w : Walk A) (f : A → Walk Outcome) → P (run m (f (run m w))) → P (run m (bind w f))
+  after w f h = subst P (sym (run-bind m w f)) h
+
+  after-message : (w : Walk Message) (f : Message → Walk Outcome) → EntryPlaced m (run m w) → ((k : FaultInfo) → P (run m (f (Message.Fault k)))) → ((a : ℕ) → P (run m (f (Redirect a))))
+      → ((d : Destination) (at : ℕ) → EntryPlaced m (Record d at) → P (run m (f (Record d at)))) → P (run m (bind w f))
+  after-message w f e x y z = after w f (go (run m w) e)
+    where
+      go : (k : Message) → EntryPlaced m k → P (run m (f k))
+      go (Message.Fault k) h = x k
+      go (Redirect a) h = y a
+      go (Record d at) h = z d at h
+
+  after-stage : (w : Walk Translation) (f : Translation → Walk Outcome) → ((k : FaultInfo) → P (run m (f (Translation.Fault k)))) → ((a : ℕ) → P (run m (f (To a)))) → P (run m (bind w f))
+  after-stage w f x y = after w f (go (run m w))
+    where
+      go : (t : Translation) → P (run m (f t))
+      go (Translation.Fault k) = x k
+      go (To a) = y a
+
+  after-info : (w : Walk PageTableInfo) (f : PageTableInfo → Walk Outcome) → ((k : FaultInfo) → P (run m (f (PageTableInfo.Fault k)))) → ((t : PageTable) (sum : Bool) → P (run m (f (Use t sum))))
+      → P (run m (bind w f))
+  after-info w f x y = after w f (go (run m w))
+    where
+      go : (i : PageTableInfo) → P (run m (f i))
+      go (PageTableInfo.Fault k) = x k
+      go (Use t sum) = y t sum
+
+  after-device : (w : Walk DeviceFound) (f : DeviceFound → Walk Outcome) → ContextPlaced m (run m w) → ((k : FaultInfo) → P (run m (f (DeviceFound.Fault k))))
+      → ((c : DecodedContext) → ContextPlaced m (Context c) → P (run m (f (Context c)))) → P (run m (bind w f))
+  after-device w f e x y = after w f (go (run m w) e)
+    where
+      go : (d : DeviceFound) → ContextPlaced m d → P (run m (f d))
+      go (DeviceFound.Fault k) h = x k
+      go (Context c) h = y c h
+
+  untranslated-placed : (x : Access) (a : ℕ) → P (untranslated x a)
   unfolding untranslated
   untranslated-placed x a = go (ltb a (2 ^ 56))
     where
-      go : (b : Bool) → AllPlaced m (pick b (Translated a) (Fault (faultAt Directory (accessFault x))))
+      go : (b : Bool) → P (pick b (Translated a) (Fault (faultAt Directory (accessFault x))))
       go true = tt
       go false = tt
 
-  module _ (c : DecodedContext) (placed : c .address % 64 ≡ 0) (read : Read m (c .address)) where
-    guest-placed : (x : Access) (a : ℕ) → AllPlaced m (run m (guestOf c x a))
+  module _ (c : DecodedContext) (placed : ContextPlaced m (Context c)) where
+    guest-placed : (x : Access) (a : ℕ) → P (run m (guestOf c x a))
     unfolding guestOf
-    guest-placed x a = go (isMessage c a)
-      where
-        said : (k : Message) → EntryPlaced m k → AllPlaced m (onMessage (c .address) k)
-        said (Record d at) h = record { file = h .0; context = placed; contextRead = read; entry = h .1; entryRead = h .2 }
-        said (Redirect b) h = tt
-        said (Message.Fault f) h = tt
+    guest-placed x a =
+        run-pick m P (isMessage c a) _ _
+        (after-message (messageOf (c .page) (c .mask) x a) _ (message-placed m x a (c .page) (c .mask)) (λ k. tt) (λ b. tt)
+        (λ d at h. record { file = h .0; context = placed .0; contextRead = placed .1; entry = h .1; entryRead = h .2 }))
+        (after-stage (secondStageOf (c .second) SecondStage x a) _ (λ k. tt) (λ b. tt))
 
-        led : (t : Translation) → AllPlaced m (onSecond t)
-        led (To b) = tt
-        led (Translation.Fault f) = tt
-
-        go : (b : Bool) → AllPlaced m (run m
-            (pick b
-            (bind (messageOf (c .page) (c .mask) x a) (λ k. done (onMessage (c .address) k)))
-            (bind (secondStageOf (c .second) SecondStage x a) (λ t. done (onSecond t)))))
-        go true = after (messageOf (c .page) (c .mask) x a) (λ k. done (onMessage (c .address) k)) (said (run m (messageOf (c .page) (c .mask) x a)) (message-placed m x a (c .page) (c .mask)))
-        go false = after (secondStageOf (c .second) SecondStage x a) (λ t. done (onSecond t)) (led (run m (secondStageOf (c .second) SecondStage x a)))
-
-    stages-placed : (q : DeviceRequest) (f : PageTable) (sum : Bool) → AllPlaced m (run m (stagesOf c q f sum))
+    stages-placed : (q : DeviceRequest) (f : PageTable) (sum : Bool) → P (run m (stagesOf c q f sum))
     unfolding stagesOf
-    stages-placed q f sum = go (f .on || c .second .on)
-      where
-        first : (t : Translation) → AllPlaced m (run m (onFirst c (q .access) t))
-        first (To a) = guest-placed (q .access) a
-        first (Translation.Fault k) = tt
+    stages-placed q f sum =
+        run-pick m P (f .on || c .second .on) _ _
+        (after-stage (firstStageOf f (c .second) (q .access) (pagesFor (q .supervisor) sum (q .access)) (q .address)) _ (λ k. tt) (guest-placed (q .access)))
+        (untranslated-placed (q .access) (q .address))
 
-        go : (b : Bool) → AllPlaced m (run m
-            (pick b
-            (bind (firstStageOf f (c .second) (q .access) (pagesFor (q .supervisor) sum (q .access)) (q .address)) (onFirst c (q .access)))
-            (done (untranslated (q .access) (q .address)))))
-        go true = after (firstStageOf f (c .second) (q .access) (pagesFor (q .supervisor) sum (q .access)) (q .address)) (onFirst c (q .access)) (first (run m (firstStageOf f (c .second) (q .access) (pagesFor (q .supervisor) sum (q .access)) (q .address))))
-        go false = untranslated-placed (q .access) (q .address)
+    device-led : (q : DeviceRequest) → P (run m (onDevice q (Context c)))
+    device-led q = after-info (firstTableOf c (q .process) (q .supervisor) (q .access)) _ (λ k. tt) (stages-placed q)
 
-    info-placed : (q : DeviceRequest) (i : PageTableInfo) → AllPlaced m (run m (onInfo c q i))
-    info-placed q (Use t sum) = stages-placed q t sum
-    info-placed q (PageTableInfo.Fault f) = tt
-
-  found-placed : (q : DeviceRequest) (d : DeviceFound) → ContextPlaced m d → AllPlaced m (run m (onDevice q d))
-  found-placed q (Context c) h =
-      after (firstTableOf c (q .process) (q .supervisor) (q .access)) (onInfo c q) (info-placed c (h .0) (h .1) q (run m (firstTableOf c (q .process) (q .supervisor) (q .access))))
-  found-placed q (DeviceFound.Fault f) h = tt
-
-  directory-placed : (s : Settings) (q : DeviceRequest) → AllPlaced m (run m (directoryOf s q))
+  directory-placed : (s : Settings) (q : DeviceRequest) → P (run m (directoryOf s q))
   unfolding directoryOf
-  directory-placed s q = go (tooWide Device (directoryLevels (s .mode)) (q .device))
-    where
-      go : (b : Bool) → AllPlaced m (run m
-          (pick b
-          (done (Fault disallowed))
-          (bind (deviceContextOf (directoryLevels (s .mode)) (s .root) (q .device)) (onDevice q))))
-      go true = tt
-      go false =
-          after (deviceContextOf (directoryLevels (s .mode)) (s .root) (q .device)) (onDevice q)
-          (found-placed q (run m (deviceContextOf (directoryLevels (s .mode)) (s .root) (q .device))) (device-placed m (directoryLevels (s .mode)) (s .root) (q .device)))
+  directory-placed s q =
+      run-pick m P (tooWide Device (directoryLevels (s .mode)) (q .device)) _ _ tt
+      (after-device (deviceContextOf (directoryLevels (s .mode)) (s .root) (q .device)) _ (device-placed m (directoryLevels (s .mode)) (s .root) (q .device)) (λ k. tt)
+      (λ c h. device-led c h q))
 
-  all-placed : (s : Settings) (q : DeviceRequest) → AllPlaced m (run m (translateOf s q))
+  all-placed : (s : Settings) (q : DeviceRequest) → P (run m (translateOf s q))
   unfolding translateOf
-  all-placed s q = go (eqb (s .mode) 0) (eqb (s .mode) 1)
-    where
-      go : (a b : Bool) → AllPlaced m (run m
-          (pick a
-          (done (Fault (faultAt Directory 256)))
-          (pick b (done (untranslated (q .access) (q .address))) (directoryOf s q))))
-      go true b = tt
-      go false true = untranslated-placed (q .access) (q .address)
-      go false false = directory-placed s q
+  all-placed s q =
+      run-pick m P (eqb (s .mode) 0) _ _ tt
+      (run-pick m P (eqb (s .mode) 1) _ _ (untranslated-placed (q .access) (q .address)) (directory-placed s q))
 
   -- of every request whose message is recorded
   pub recorded-placed : (s : Settings) (q : DeviceRequest) (r : Recording) → run m (translateOf s q) ≡ Recorded r → Placed m r
-  recorded-placed s q r e = subst (AllPlaced m) e (all-placed s q)
+  recorded-placed s q r e = subst P e (all-placed s q)

@@ -1,10 +1,12 @@
 -- Laws of walks, each once for every walk. Assumes nothing.
 use Prim.Native.Nat.{ℕ}
 use mathlib.Core.List.{List, [], _∷_, _++_}
+use mathlib.Core.Bool.{Bool, true, false}
 use mathlib.Core.Path.{_≡_, refl, sym, ap, _∙_}
+use Rattle.memory.specs.Choice.{pick}
 use Rattle.memory.specs.declared.Load.{Load}
-use Rattle.memory.specs.declared.Load.the-variants.{Value}
-use Rattle.memory.specs.Walk.{Walk, done, load, bind, run, trace}
+use Rattle.memory.specs.declared.Load.the-variants.{Value, Violation}
+use Rattle.memory.specs.Walk.{Walk, done, load, bind, run, trace, onValue, loadOr}
 
 -- a composed walk's result, and the addresses that it reads
 pub run-bind : {A B : Type 0} (m : ℕ → Load) (w : Walk A) (f : A → Walk B) → run m (bind w f) ≡ run m (f (run m w))
@@ -18,6 +20,19 @@ trace-bind m (load p k) f = ap (λ t. p ∷ t) (trace-bind m (k (m p)) f)
 -- a memory has a doubleword at an address
 abbrev pub Read : (ℕ → Load) → ℕ → Type 0
 Read m a = (v : ℕ) × (m a ≡ Value v)
+
+-- what holds of a walk's result, by its steps
+module _ {A : Type 0} (m : ℕ → Load) (P : A → Type 0) where
+  pub run-pick : (b : Bool) (v w : Walk A) → P (run m v) → P (run m w) → P (run m (pick b v w))
+  run-pick true v w h k = h
+  run-pick false v w h k = k
+
+  pub run-load : (fault : Walk A) (a : ℕ) (next : ℕ → Walk A) → P (run m fault) → ((v : ℕ) → m a ≡ Value v → P (run m (next v))) → P (run m (loadOr fault a next))
+  run-load fault a next h k = go (m a) refl
+    where
+      go : (u : Load) → m a ≡ u → P (run m (onValue fault next u))
+      go (Value v) e = k v e
+      go Violation e = h
 
 -- two memories have the same doubleword at each address of a list
 pub data Agree (m n : ℕ → Load) : List ℕ → Type 0 where
