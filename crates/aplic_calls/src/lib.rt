@@ -10,14 +10,14 @@ use source::Delivery;
 use sources::Sources;
 
 // What is sent for a source: the identity, to a hart's interrupt file or to that of a guest there.
-#[derive(Drop)]
+#[derive(Clone, Copy)]
 pub struct Msi {
     pub hart: u32,
     pub guest: u32,
     pub identity: u32,
 }
 
-#[derive(Drop)]
+#[derive(Clone, Copy)]
 pub enum Sent {
     Idle,
     Forwarded(Msi),

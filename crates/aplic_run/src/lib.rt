@@ -9,7 +9,7 @@ use aplic_calls::Sent;
 use source::Delivery;
 
 // The words of an answer.
-#[derive(Drop)]
+#[derive(Clone, Copy)]
 pub struct Reply {
     pub kind: u64,
     pub first: u64,

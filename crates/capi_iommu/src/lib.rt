@@ -12,7 +12,7 @@ use iommu_refusals::{DeviceRequest, Settings};
 use memory::Starts;
 
 // An access that a number names.
-#[derive(Drop)]
+#[derive(Clone, Copy)]
 pub enum Chosen {
     Known(Access),
     Unknown,

@@ -3,7 +3,7 @@ ghost use Rattle.std.specs.Prelude.{◌≡◌};
 ghost use Rattle.causes.specs.Causes.{is_write, is_execute, access_fault, page_fault, guest_page_fault, disallowed as disallowedOf, stage_number};
 
 // 01: "read, write or read-for-execute".
-#[derive(Drop)]
+#[derive(Clone, Copy)]
 pub enum Access {
     Read,
     Write,
@@ -11,7 +11,7 @@ pub enum Access {
 }
 
 // 01: "a fault names the stage that found it".
-#[derive(Drop)]
+#[derive(Clone, Copy)]
 pub enum Stage {
     Directory,
     ProcessDirectory,
@@ -21,7 +21,7 @@ pub enum Stage {
 }
 
 // A fault: the standard's cause, and the stage.
-#[derive(Drop)]
+#[derive(Clone, Copy)]
 pub struct FaultInfo {
     pub cause: u64,
     pub stage: Stage,

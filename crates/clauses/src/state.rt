@@ -3,7 +3,7 @@ use libc::STDOUT_FILENO;
 
 // Where each window starts and its length (as `io::count` takes it), the directory, how many calls were answered, whether
 // there is a memory and a domain yet, and whether a row broke the format.
-#[derive(Drop)]
+#[derive(Clone, Copy)]
 pub struct State {
     pub first_start: u64,
     pub first_length: isize,

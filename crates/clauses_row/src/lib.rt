@@ -2,7 +2,7 @@
 ghost use Rattle.std.specs.Prelude.{◌≤◌, ◌<◌, length as length_of};
 
 // A letter of 0 stands for a line that can't be read.
-#[derive(Drop)]
+#[derive(Clone, Copy)]
 pub struct Row {
     pub letter: u8,
     pub count: usize,
@@ -10,7 +10,7 @@ pub struct Row {
 }
 
 // What a word says, and whether it is a number at all.
-#[derive(Drop)]
+#[derive(Clone, Copy)]
 struct Number {
     value: u64,
     good: bool,

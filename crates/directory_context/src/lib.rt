@@ -8,7 +8,7 @@ ghost use Rattle.directory_context.specs.Code.{control_tests, table_tests, first
 use paging::PageTable;
 
 // 01: "The context is 64 bytes in the order tc, iohgatp, ta, fsc, msiptp, mask, pattern, reserved".
-#[derive(Drop)]
+#[derive(Clone, Copy)]
 pub struct DeviceContext {
     pub tc: u64,
     pub iohgatp: u64,
@@ -21,7 +21,7 @@ pub struct DeviceContext {
 }
 
 // What a device context that passes its checks says, and where it lies.
-#[derive(Drop)]
+#[derive(Clone, Copy)]
 pub struct DecodedContext {
     pub address: u64,
     // iohgatp.
@@ -39,7 +39,7 @@ pub struct DecodedContext {
 }
 
 // 01: "a leaf is 16 bytes, ta .., then fsc".
-#[derive(Drop)]
+#[derive(Clone, Copy)]
 pub struct ProcessContext {
     pub ta: u64,
     pub fsc: u64,

@@ -14,7 +14,7 @@ use directory_entry::Tree;
 use memory::Starts;
 use paging_entry::Translation;
 
-#[derive(Drop)]
+#[derive(Clone, Copy)]
 pub enum DeviceFound {
     Context(DecodedContext),
     Fault(FaultInfo),

@@ -12,7 +12,7 @@ use paging_entry::Translation;
 use paging_scheme::Scheme;
 
 // The two directories.
-#[derive(Drop)]
+#[derive(Clone, Copy)]
 pub enum Tree {
     Device,
     Process,

@@ -15,14 +15,14 @@ use paging::PageTable;
 use paging_entry::Translation;
 
 // 01: "an optional process_id".
-#[derive(Drop)]
+#[derive(Clone, Copy)]
 pub enum ProcessId {
     Absent,
     Given(u64),
 }
 
 // 003, steps 7 to 16: the first stage's table and SUM, or a fault.
-#[derive(Drop)]
+#[derive(Clone, Copy)]
 pub enum PageTableInfo {
     Use(PageTable, bool),
     Fault(FaultInfo),

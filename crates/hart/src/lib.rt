@@ -6,7 +6,7 @@ ghost use Rattle.hart.specs.Kept.{record_of, kept_of, limit_of, better_of};
 
 use register::HartRegister;
 
-#[derive(Drop)]
+#[derive(Clone, Copy)]
 pub struct Hart {
     pub delivery: bool,
     pub force: bool,

@@ -10,7 +10,7 @@ ghost use Rattle.interrupt_file.specs.File.{is_file, taken_of, after_store, afte
 ghost use Rattle.interrupt_file.specs.Report.{file_report, refused_report};
 
 // 01: "32 pairs of doublewords, pending then enable".
-#[derive(Drop)]
+#[derive(Clone, Copy)]
 pub struct Pair {
     pub pending: u64,
     pub enable: u64,

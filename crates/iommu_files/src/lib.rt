@@ -12,7 +12,7 @@ use memory::Starts;
 use message::Destination;
 
 // What a request or a take is answered.
-#[derive(Drop)]
+#[derive(Clone, Copy)]
 pub enum Answer {
     Translated(u64),
     Redirected(u64),
@@ -24,7 +24,7 @@ pub enum Answer {
 }
 
 // 01's form of an answer: its number and three values.
-#[derive(Drop)]
+#[derive(Clone, Copy)]
 pub struct Numbers {
     pub kind: u64,
     pub first: u64,

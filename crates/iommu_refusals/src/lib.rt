@@ -9,7 +9,7 @@ use directory_process::ProcessId;
 use memory::Starts;
 
 // Where the two windows start, and the device directory. A window's length is that of its lent bytes.
-#[derive(Drop)]
+#[derive(Clone, Copy)]
 pub struct Settings {
     pub starts: Starts,
     pub mode: u64,
@@ -17,7 +17,7 @@ pub struct Settings {
 }
 
 // A device's request. The data value of a 4-byte write stands beside it.
-#[derive(Drop)]
+#[derive(Clone, Copy)]
 pub struct DeviceRequest {
     pub device: u64,
     pub process: ProcessId,

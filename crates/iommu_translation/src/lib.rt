@@ -22,7 +22,7 @@ use paging::PageTable;
 use paging_entry::{Pages, Purpose, Translation};
 
 // A message to be recorded: where, and the addresses of the device context and of the message entry that say so.
-#[derive(Drop)]
+#[derive(Clone, Copy)]
 pub struct Recording {
     pub destination: Destination,
     pub context: u64,
@@ -30,7 +30,7 @@ pub struct Recording {
 }
 
 // What the tables say of a request, before the store is looked at.
-#[derive(Drop)]
+#[derive(Clone, Copy)]
 pub enum Outcome {
     Translated(u64),
     Redirected(u64),

@@ -13,7 +13,7 @@ const FAR: u64 = 0x50000200;
 const NEAR: u64 = 0x40001400;
 
 // What the ledger keeps for one identity of one file, and the pending bit that it started from.
-#[derive(Drop)]
+#[derive(Clone, Copy)]
 struct Account {
     file: u64,
     identity: u64,
@@ -25,7 +25,7 @@ struct Account {
 }
 
 // The three interrupts that the list speaks of: two of the file in the second window, one of that in the first.
-#[derive(Drop)]
+#[derive(Clone, Copy)]
 struct Ledger {
     low: Account,
     high: Account,

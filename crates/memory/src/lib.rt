@@ -5,14 +5,14 @@ ghost use Rattle.memory.specs.Window.{inside, little, doubleword, lent, part_of,
 ghost use Rattle.memory.specs.Code.{Walkable, eight, part_at, load_of, load_at, turned_starts};
 
 // Where the two windows start.
-#[derive(Drop)]
+#[derive(Clone, Copy)]
 pub struct Starts {
     pub first: u64,
     pub second: u64,
 }
 
 // A doubleword that was read, or an access violation.
-#[derive(Drop)]
+#[derive(Clone, Copy)]
 pub enum Load {
     Value(u64),
     Violation,

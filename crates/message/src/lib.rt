@@ -9,7 +9,7 @@ use causes::{Access, FaultInfo, Stage};
 use memory::{Load, Starts};
 
 // Where an entry in MRIF mode has a message recorded, and the notice that it asks for: a number to be written at an address.
-#[derive(Drop)]
+#[derive(Clone, Copy)]
 pub struct Destination {
     pub file: u64,
     pub notice: u64,
@@ -17,7 +17,7 @@ pub struct Destination {
 }
 
 // What a message entry says; one in MRIF mode with its own address.
-#[derive(Drop)]
+#[derive(Clone, Copy)]
 pub enum Message {
     Redirect(u64),
     Record(Destination, u64),

@@ -4,7 +4,7 @@ ghost use Rattle.message_recognition.specs.Recognition.{recognised as recognised
 ghost use Rattle.message_recognition.specs.Code.{Ready, round_of, Packs};
 
 // Packing under way: the number so far, how many of its places are taken, and the ones of the mask that are left.
-#[derive(Drop)]
+#[derive(Clone, Copy)]
 struct Packing {
     number: u64,
     used: u32,
@@ -12,7 +12,7 @@ struct Packing {
 }
 
 // A packed number and how many rounds made it; the count is for the promise alone, and the compiler drops it.
-#[derive(Drop)]
+#[derive(Clone, Copy)]
 struct Counted {
     number: u64,
     rounds: u32,

@@ -17,7 +17,7 @@ use paging_entry::{LeafTest, Lookup, Pages, Purpose, Raw, Step, Translation};
 use paging_scheme::Scheme;
 
 // A stage of translation, as iosatp or iohgatp gives it: Bare where it isn't on.
-#[derive(Drop)]
+#[derive(Clone, Copy)]
 pub struct PageTable {
     pub on: bool,
     pub scheme: Scheme,
@@ -25,7 +25,7 @@ pub struct PageTable {
 }
 
 // Where a walk in one window stands: at its end, as a number, or before an entry that the window doesn't hold: its level, shift and address.
-#[derive(Drop)]
+#[derive(Clone, Copy)]
 pub enum Stand {
     End(u64),
     Left(u64, u64, u64),

@@ -11,7 +11,7 @@ use causes::{Access, FaultInfo, Stage};
 use memory::Load;
 
 // Why one table is walked; permission, causes and stages go by it.
-#[derive(Drop)]
+#[derive(Clone, Copy)]
 pub enum Purpose {
     // The device's address, by the first stage.
     FirstStage,
@@ -24,7 +24,7 @@ pub enum Purpose {
 }
 
 // The pages that may be used, by their U bit.
-#[derive(Drop)]
+#[derive(Clone, Copy)]
 pub enum Pages {
     // U = 1.
     User,
@@ -35,7 +35,7 @@ pub enum Pages {
 }
 
 // What is asked of one table.
-#[derive(Drop)]
+#[derive(Clone, Copy)]
 pub struct Lookup {
     pub address: u64,
     pub access: Access,
@@ -44,7 +44,7 @@ pub struct Lookup {
 }
 
 // A page-table entry that maps a page, as the definitions speak of it; the code tests its bits in place.
-#[derive(Drop)]
+#[derive(Clone, Copy)]
 pub struct Leaf {
     pub r: bool,
     pub w: bool,
@@ -56,7 +56,7 @@ pub struct Leaf {
 }
 
 // What a page-table entry says.
-#[derive(Drop)]
+#[derive(Clone, Copy)]
 pub enum Entry {
     Faulty,
     Table(u64),
@@ -64,14 +64,14 @@ pub enum Entry {
 }
 
 // What a translation answers.
-#[derive(Drop)]
+#[derive(Clone, Copy)]
 pub enum Translation {
     To(u64),
     Fault(FaultInfo),
 }
 
 // What an entry leads to, before a fault is given its cause.
-#[derive(Drop)]
+#[derive(Clone, Copy)]
 pub enum Raw {
     Arrive(u64),
     Next(u64),
@@ -80,14 +80,14 @@ pub enum Raw {
 }
 
 // What a walk asks of a leaf, as numbers: an entry's test then has no branch by access or pages, and no bit is picked out by itself.
-#[derive(Drop)]
+#[derive(Clone, Copy)]
 pub struct LeafTest {
     pub mask: u64,
     pub want: u64,
 }
 
 // What one level of a walk leads to.
-#[derive(Drop)]
+#[derive(Clone, Copy)]
 pub enum Step {
     Stop(Translation),
     Next(u64),

@@ -4,7 +4,7 @@ ghost use Rattle.paging_scheme.specs.Scheme.{levels_of, root_bits_of, address_bi
 ghost use Rattle.paging_scheme.specs.Code.{free_bits_of};
 
 // The page-table schemes (01, "Fixed capabilities"; 02, Req 03).
-#[derive(Drop)]
+#[derive(Clone, Copy)]
 pub enum Scheme {
     Sv39,
     Sv48,

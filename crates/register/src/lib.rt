@@ -3,7 +3,7 @@ ghost use Rattle.std.specs.Prelude.{◌≡◌};
 ghost use Rattle.register.specs.Register.{pending_register, enable_register, register_of, idc_of};
 
 // The registers of pending and enable bits. A `bool` says which of an array's two registers it is: true for sources 32 to 63.
-#[derive(Drop)]
+#[derive(Clone, Copy)]
 pub enum BitRegister {
     SetIp(bool),
     SetIpNum,
@@ -15,7 +15,7 @@ pub enum BitRegister {
     ClrIeNum,
 }
 
-#[derive(Drop)]
+#[derive(Clone, Copy)]
 pub enum Register {
     DomainCfg,
     SourceCfg(u64),
@@ -25,7 +25,7 @@ pub enum Register {
 }
 
 // The registers of a hart but claimi, which is the one that changes by being read.
-#[derive(Drop)]
+#[derive(Clone, Copy)]
 pub enum HartRegister {
     IDelivery,
     IForce,
@@ -34,7 +34,7 @@ pub enum HartRegister {
 }
 
 // What is in the array of interrupt delivery control structures: a hart's number, and its register.
-#[derive(Drop)]
+#[derive(Clone, Copy)]
 pub enum Idc {
     OfHart(u64, HartRegister),
     ClaimI(u64),

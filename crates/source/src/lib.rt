@@ -4,13 +4,13 @@ ghost use Rattle.source.specs.Source.{mode_from, wired_of, level_of, low_of, by_
 ghost use Rattle.source.specs.Source.{direct_of, first_target, configured_target, target_of, aimed_target};
 
 // How a domain delivers interrupts.
-#[derive(Drop)]
+#[derive(Clone, Copy)]
 pub enum Delivery {
     Direct,
     Message,
 }
 
-#[derive(Drop)]
+#[derive(Clone, Copy)]
 pub enum Mode {
     Inactive,
     Detached,
@@ -20,7 +20,7 @@ pub enum Mode {
     Level0,
 }
 
-#[derive(Drop)]
+#[derive(Clone, Copy)]
 pub struct Source {
     pub mode: Mode,
     pub wire: bool,

@@ -7,7 +7,7 @@ ghost use Rattle.sources.specs.Sources.{source_of, Acts, Inputs, lined, first_wa
 use source::{Delivery, Source};
 
 // A source's mode is three bits, those of its number: attached to the wire, level-sensitive, the lowest bit.
-#[derive(Drop)]
+#[derive(Clone, Copy)]
 pub struct Sources {
     pub wired: u64,
     pub level: u64,

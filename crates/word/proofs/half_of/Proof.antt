@@ -1,7 +1,0 @@
-use Rattle.word.proofs.Bits.{words}
-use borrow.Author.Rules.{rules}
-use Rattle.word.proofs.half_of.Statement.{statement}
-use Rattle.word.proofs.half_of.Tie as tie
-
-pub half-of-spec : {M : Type 1} → statement M
-half-of-spec = tie.close (tie.spec (λ c. search rules) (λ c. search (words, rules)) (λ c. search rules) (λ c. search rules) (λ c. search (words, rules)))
