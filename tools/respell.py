@@ -101,6 +101,8 @@ def main():
     words = set()
     for t in texts.values():
         words |= set(NAME.findall(code(t[1])))
+    for c, t in code_of.values():
+        words |= {n for n in re.findall(r" as (\w+)", t) if CAMEL.match(n)}
     defined = set()
     for c, t in texts.values():
         defined |= set(definitions(t))

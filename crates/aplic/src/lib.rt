@@ -3,7 +3,7 @@ ghost use Rattle.std.specs.Prelude.{◌≡◌, ◌<◌};
 ghost use Rattle.hart.specs.Hart.{hart_refusal};
 ghost use Rattle.source.specs.Table.{start_of};
 ghost use Rattle.aplic_calls.specs.Calls.{wire_table, wire_refusal, write_table, read_table, after_read, forward_table, sent_of};
-ghost use Rattle.aplic_calls.specs.Direct.{topi, claim_table, claim_hart, claimed, claim_value, signalled as signalledOf};
+ghost use Rattle.aplic_calls.specs.Direct.{topi, claim_table, claim_hart, claimed, claim_value, signalled as signalled_of};
 ghost use Rattle.aplic_words.specs.State.{mode_word};
 ghost use Rattle.aplic.specs.Domain.{table_of};
 
@@ -195,7 +195,7 @@ impl Domain {
 
     // Whether a hart is signalled.
     pub fn signal(mut self, hart: u64) -> Signal
-        ensures { (table_of result.domain ≡ table_of self) × (result.asserted ≡ signalledOf hart (table_of self)) × (result.refusal ≡ hart_refusal hart) }
+        ensures { (table_of result.domain ≡ table_of self) × (result.asserted ≡ signalled_of hart (table_of self)) × (result.refusal ≡ hart_refusal hart) }
     {
         let refusal = hart::refusal(hart);
         let mut asserted = false;

@@ -1,7 +1,7 @@
 // A hart of a domain in lent words: its top interrupt, its registers, its claims, and whether it is signalled.
 ghost use Rattle.std.specs.Prelude.{◌≡◌, ◌<◌, ◌≤◌, length as length_of, drop, true, false};
 ghost use Rattle.source.specs.Source.{direct_of};
-ghost use Rattle.aplic_calls.specs.Direct.{top_at, topi, claim_table, claimed, claim_value, read_hart, claims, signalled as signalledOf};
+ghost use Rattle.aplic_calls.specs.Direct.{top_at, topi, claim_table, claimed, claim_value, read_hart, claims, signalled as signalled_of};
 ghost use Rattle.aplic_words.specs.State.{delivery_in, table_in};
 
 use register::HartRegister;
@@ -84,7 +84,7 @@ pub fn claim(state: &mut [u64], h: u64) -> u32
 // Whether a hart is signalled.
 pub fn signal(state: &[u64], h: u64) -> bool
     requires { (87 ≤ length_of state.now) × (h < 16) }
-    ensures { result ≡ signalledOf h (table_in state.now) }
+    ensures { result ≡ signalled_of h (table_in state.now) }
 {
     let d = aplic_words::delivery_in(state);
     let x = aplic_words::record_in(state, h);

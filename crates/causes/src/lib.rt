@@ -1,6 +1,6 @@
 // What a device asks to do, and what a fault says.
 ghost use Rattle.std.specs.Prelude.{◌≡◌};
-ghost use Rattle.causes.specs.Causes.{is_write, is_execute, access_fault, page_fault, guest_page_fault, disallowed as disallowedOf, stage_number};
+ghost use Rattle.causes.specs.Causes.{is_write, is_execute, access_fault, page_fault, guest_page_fault, disallowed as disallowed_of, stage_number};
 
 // 01: "read, write or read-for-execute".
 #[derive(Clone, Copy)]
@@ -79,7 +79,7 @@ pub fn guest_page_fault(x: Access) -> u64
 
 // 003: "Transaction type disallowed".
 pub fn disallowed() -> FaultInfo
-    ensures { result ≡ disallowedOf }
+    ensures { result ≡ disallowed_of }
 {
     FaultInfo {
         cause: 260,

@@ -1,7 +1,7 @@
 // What one entry of either directory says, and the fields that their doublewords share.
 ghost use Rattle.std.specs.Prelude.{◌≡◌, false, ◌*◌, ◌<◌, ◌^◌};
 ghost use Rattle.paging_scheme.specs.Scheme.{signed_of};
-ghost use Rattle.directory_entry.specs.Entries.{load_fault, invalid as invalidOf, misconfigured as misconfiguredOf, pointer_of, by_level, directory_index, leaf_size, too_wide};
+ghost use Rattle.directory_entry.specs.Entries.{load_fault, invalid as invalid_of, misconfigured as misconfigured_of, pointer_of, by_level, directory_index, leaf_size, too_wide};
 ghost use Rattle.directory_entry.specs.Fields.{root_mode_of, root_page_of, bare_of, scheme_mode, valid_mode, first_scheme, second_scheme, first_table, second_table, bare_table};
 ghost use Rattle.directory_entry.specs.Code.{Below};
 
@@ -36,7 +36,7 @@ pub fn load_fault(t: Tree) -> FaultInfo
 
 // An entry with V = 0.
 pub fn invalid(t: Tree) -> FaultInfo
-    ensures { result ≡ invalidOf t }
+    ensures { result ≡ invalid_of t }
 {
     match t {
         Tree::Device => FaultInfo {
@@ -52,7 +52,7 @@ pub fn invalid(t: Tree) -> FaultInfo
 
 // An entry with reserved bits, or a context that fails a check.
 pub fn misconfigured(t: Tree) -> FaultInfo
-    ensures { result ≡ misconfiguredOf t }
+    ensures { result ≡ misconfigured_of t }
 {
     match t {
         Tree::Device => FaultInfo {

@@ -3,7 +3,7 @@ ghost use mathlib.Core.Bool.{false};
 ghost use mathlib.Core.Path.{◌≡◌};
 ghost use Prim.Native.Nat.{◌+◌, ◌*◌, ◌≤◌, ◌<◌};
 ghost use lib.ListN.{length};
-ghost use Rattle.fault_queue.specs.Queue.{legal_length, bad_queue, following as followingOf, is_full, record_bytes, record_at, queue_of, drops as dropsOf, filed, read_out_of, after_read_out, cleared};
+ghost use Rattle.fault_queue.specs.Queue.{legal_length, bad_queue, following as following_of, is_full, record_bytes, record_at, queue_of, drops as drops_of, filed, read_out_of, after_read_out, cleared};
 
 // Where a queue stands: head and tail are indices of its slots of 32 bytes.
 #[derive(Drop)]
@@ -64,7 +64,7 @@ pub fn bad_queue(len: u64, q: QueueState) -> bool
 // The index after another one, without a division.
 fn following(slots: u64, i: u64) -> u64
     requires { i < slots }
-    ensures { result ≡ followingOf slots i }
+    ensures { result ≡ following_of slots i }
 {
     if i + 1 == slots {
         return 0;

@@ -3,9 +3,9 @@ ghost use mathlib.Core.Path.{◌≡◌};
 ghost use mathlib.Core.Bool.{false};
 ghost use Prim.Native.Nat.{◌<◌};
 ghost use lib.ListN.{length};
-ghost use Rattle.word.specs.Word.{digit as digitOf};
+ghost use Rattle.word.specs.Word.{digit as digit_of};
 ghost use Rattle.fault_queue.specs.Queue.{bad_queue, queue_of, filed_all, Lodges};
-ghost use Rattle.fault_record.specs.Record.{type_of, gives_process, process_number, transaction_of, is_guest_page_fault, iotval2_of, record_of, suppressed as suppressedOf, records_of};
+ghost use Rattle.fault_record.specs.Record.{type_of, gives_process, process_number, transaction_of, is_guest_page_fault, iotval2_of, record_of, suppressed as suppressed_of, records_of};
 
 use causes::{Access, FaultInfo};
 use directory_process::ProcessId;
@@ -14,7 +14,7 @@ use iommu_refusals::DeviceRequest;
 
 // A bit as a number.
 fn digit(b: bool) -> u64
-    ensures { (result ≡ digitOf b) × (result < 2) }
+    ensures { (result ≡ digit_of b) × (result < 2) }
 {
     if b {
         return 1;
@@ -94,7 +94,7 @@ pub fn record_of(q: DeviceRequest, f: FaultInfo) -> FaultRecord
 
 // Whether DTF keeps a fault out of the queue.
 fn suppressed(dtf: bool, cause: u64) -> bool
-    ensures { result ≡ suppressedOf dtf cause }
+    ensures { result ≡ suppressed_of dtf cause }
 {
     dtf & !((256 <= cause) & (cause <= 259))
 }

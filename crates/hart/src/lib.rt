@@ -1,7 +1,7 @@
 // A hart's delivery record, and the keys by which its top interrupt is found.
 ghost use Rattle.std.specs.Prelude.{◌≡◌, ◌<◌, ◌≤◌};
 ghost use Rattle.word.specs.Word.{digit};
-ghost use Rattle.hart.specs.Hart.{wrote_of, unforced as unforcedOf, top_word, hart_refusal};
+ghost use Rattle.hart.specs.Hart.{wrote_of, unforced as unforced_of, top_word, hart_refusal};
 ghost use Rattle.hart.specs.Kept.{record_of, kept_of, limit_of, better_of};
 
 use register::HartRegister;
@@ -56,7 +56,7 @@ pub fn wrote(x: Hart, k: HartRegister, v: u32) -> Hart
 
 // A record after a claim of nothing.
 pub fn unforced(x: Hart) -> Hart
-    ensures { result ≡ unforcedOf x }
+    ensures { result ≡ unforced_of x }
 {
     Hart {
         delivery: x.delivery,

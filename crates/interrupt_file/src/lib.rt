@@ -1,7 +1,7 @@
 // Interrupt files in lent memory.
 ghost use Rattle.std.specs.Prelude.{true, ◌≡◌, ◌+◌, ◌*◌, ◌/◌, ◌%◌, ◌^◌, ◌≤◌, ◌<◌, length, get_or, set};
 ghost use Rattle.std.specs.Int.Bits.{bit_and};
-ghost use Rattle.std.specs.Int.Count.{ones as onesOf};
+ghost use Rattle.std.specs.Int.Count.{ones as ones_of};
 ghost use Rattle.memory.specs.Bits.{without};
 ghost use Rattle.memory.specs.Code.{eight};
 ghost use Rattle.memory.specs.Window.{doubleword};
@@ -88,7 +88,7 @@ pub fn take_many(start: u64, window: &mut [u8], file: u64, d: u64, mask: u64) ->
 
 // How many bits of a doubleword are 1.
 pub fn ones(x: u64) -> u64
-    ensures { (result ≡ onesOf x) × (result ≤ 64) }
+    ensures { (result ≡ ones_of x) × (result ≤ 64) }
 {
     u64::count_ones(x) as u64
 }

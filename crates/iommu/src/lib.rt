@@ -5,7 +5,7 @@ ghost use Rattle.memory.specs.Window.{Leaves};
 ghost use Rattle.memory.specs.Code.{Walkable};
 ghost use Rattle.interrupt_file.specs.File.{is_file, after_store};
 ghost use Rattle.iommu_files.specs.Answers.{Answered};
-ghost use Rattle.iommu.specs.Request.{reversed as reversedOf, identity_of, storable_as, over_tables, finish as finishOf, stored_by, request_of, after_request};
+ghost use Rattle.iommu.specs.Request.{reversed as reversed_of, identity_of, storable_as, over_tables, finish as finish_of, stored_by, request_of, after_request};
 ghost use Rattle.iommu_refusals.specs.Refusals.{is_lent_file};
 ghost use Rattle.iommu.specs.Code.{stored_if};
 
@@ -16,7 +16,7 @@ use memory::Starts;
 
 // The four bytes of a data value reversed.
 fn reversed(value: u32) -> u64
-    ensures { result ≡ reversedOf value }
+    ensures { result ≡ reversed_of value }
 {
     let d = value as u64;
     d % 256 * 16777216 + d / 256 % 256 * 65536 + d / 65536 % 256 * 256 + d / 16777216 % 256
@@ -106,7 +106,7 @@ fn record_message(
     r: Recording,
 ) -> Answer
     requires { Walkable starts (length first.old) (length second.old) }
-    ensures answer { result ≡ finishOf starts (length first.old) (length second.old) q value (Outcome.Recorded r) }
+    ensures answer { result ≡ finish_of starts (length first.old) (length second.old) q value (Outcome.Recorded r) }
     ensures bytes { Leaves (stored_by starts first.old second.old q value result) first.new second.new }
 {
     let n = identity(q, value);

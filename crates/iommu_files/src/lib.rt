@@ -3,7 +3,7 @@ ghost use Rattle.std.specs.Prelude.{◌≡◌, true, ◌<◌, length};
 ghost use Rattle.memory.specs.Window.{Leaves};
 ghost use Rattle.memory.specs.Code.{Walkable};
 ghost use Rattle.iommu_refusals.specs.Refusals.{is_lent_file};
-ghost use Rattle.iommu_files.specs.Answers.{numbers as numbersBy, numbers_of, Answered};
+ghost use Rattle.iommu_files.specs.Answers.{numbers as numbers_by, numbers_of, Answered};
 ghost use Rattle.iommu_files.specs.Files.{answered_at, many_taken_at, take_of, after_take_of, take_many_of, after_take_many_of, report_of};
 
 use causes::FaultInfo;
@@ -53,7 +53,7 @@ pub fn to_numbers(a: Answer) -> Numbers
 }
 
 fn numbered(kind: u64, first: u64) -> Numbers
-    ensures { result ≡ numbersBy kind first 0 0 }
+    ensures { result ≡ numbers_by kind first 0 0 }
 {
     Numbers {
         kind,

@@ -8,7 +8,7 @@ ghost use Rattle.paging.specs.Stages.{second_stage_of};
 ghost use Rattle.paging_entry.specs.declared.Purpose.TheVariants.{SecondStage};
 ghost use Rattle.paging_entry.specs.Entry.{pages_for};
 ghost use Rattle.directory_context.specs.Code.{SoundContext};
-ghost use Rattle.iommu_translation.specs.Translate.{untranslated as untranslatedOf, on_message, on_second, is_message, guest_of, stages_of, on_device, directory_of, translate_of};
+ghost use Rattle.iommu_translation.specs.Translate.{untranslated as untranslated_of, on_message, on_second, is_message, guest_of, stages_of, on_device, directory_of, translate_of};
 
 use causes::{Access, FaultInfo, Stage};
 use directory_context::DecodedContext;
@@ -40,7 +40,7 @@ pub enum Outcome {
 
 // An address that no stage translates.
 fn untranslated(x: Access, a: u64) -> Outcome
-    ensures { result ≡ untranslatedOf x a }
+    ensures { result ≡ untranslated_of x a }
 {
     if a < 72057594037927936 {
         return Outcome::Translated(a);

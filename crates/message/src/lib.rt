@@ -3,7 +3,7 @@ ghost use Rattle.std.specs.Prelude.{◌≡◌, ◌*◌, ◌%◌, ◌^◌, ◌<�
 ghost use Rattle.memory.specs.Window.{lent, memory};
 ghost use Rattle.memory.specs.Walk.{run};
 ghost use Rattle.memory.specs.Code.{Walkable};
-ghost use Rattle.message.specs.Table.{alignment, table_fault, permitted as permittedOf, translate_reserved, record_reserved, destination_of, on_translate, on_notice, on_message_entry, message_of};
+ghost use Rattle.message.specs.Table.{alignment, table_fault, permitted as permitted_of, translate_reserved, record_reserved, destination_of, on_translate, on_notice, on_message_entry, message_of};
 
 use causes::{Access, FaultInfo, Stage};
 use memory::{Load, Starts};
@@ -48,7 +48,7 @@ fn table_fault(cause: u64) -> Message
 
 // An entry permits reads and writes.
 fn permitted(x: Access, m: Message) -> Message
-    ensures { result ≡ permittedOf x m }
+    ensures { result ≡ permitted_of x m }
 {
     match x {
         Access::Execute => table_fault(1),

@@ -1,6 +1,6 @@
 // Which guest addresses are messages, and the number of the file that one is for.
 ghost use Rattle.std.specs.Prelude.{◌≡◌, ◌^◌, ◌<◌};
-ghost use Rattle.message_recognition.specs.Recognition.{recognised as recognisedOf, extract as extractOf};
+ghost use Rattle.message_recognition.specs.Recognition.{recognised as recognised_of, extract as extract_of};
 ghost use Rattle.message_recognition.specs.Code.{Ready, round_of, Packs};
 
 // Packing under way: the number so far, how many of its places are taken, and the ones of the mask that are left.
@@ -20,7 +20,7 @@ struct Counted {
 
 // Whether a guest address is one of a virtual interrupt file: its page number has the pattern in each bit that the mask leaves out.
 pub fn recognised(mask: u64, pattern: u64, a: u64) -> bool
-    ensures { result ≡ recognisedOf mask pattern a }
+    ensures { result ≡ recognised_of mask pattern a }
 {
     let page = a / 4096;
     page - (page & mask) == pattern - (pattern & mask)
@@ -65,7 +65,7 @@ fn pack(x: u64, mask: u64) -> Counted
 
 // The bits of x that the mask picks, packed in their order.
 pub fn extract(x: u64, mask: u64) -> u64
-    ensures { (result ≡ extractOf x mask) × (result < 2 ^ 52) }
+    ensures { (result ≡ extract_of x mask) × (result < 2 ^ 52) }
 {
     pack(x, mask).number
 }

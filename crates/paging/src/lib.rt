@@ -5,9 +5,9 @@ ghost use Rattle.memory.specs.Walk.{run};
 ghost use Rattle.memory.specs.Code.{Walkable};
 ghost use Rattle.paging_scheme.specs.Scheme.{levels_of, signed_of, legal_of, page_bits_of, index_of};
 ghost use Rattle.paging_entry.specs.Purpose.{asked_of};
-ghost use Rattle.paging_entry.specs.Entry.{faulted as faultedOf};
+ghost use Rattle.paging_entry.specs.Entry.{faulted as faulted_of};
 ghost use Rattle.paging_entry.specs.Code.{test_of, code_of, Tight};
-ghost use Rattle.paging.specs.Levels.{levels as levelsFrom, walk_of};
+ghost use Rattle.paging.specs.Levels.{levels as levels_from, walk_of};
 ghost use Rattle.paging.specs.Stages.{entry_place, first_stage_of};
 ghost use Rattle.paging.specs.Code.{raw_walk, near_walk, Standing, step_at, Small};
 
@@ -32,7 +32,7 @@ pub enum Stand {
 }
 
 fn faulted(q: Lookup) -> Translation
-    ensures { result ≡ faultedOf q }
+    ensures { result ≡ faulted_of q }
 {
     let p = q.purpose;
     let x = q.access;
@@ -198,7 +198,7 @@ fn guest_descend<'a>(
     root: u64,
 ) -> Translation
     requires { (root < 2 ^ 44) × (top ≡ page_bits_of (levels_of s - 1)) × (index ≡ index_of s q.address (levels_of s - 1)) × (index < 2048) × (t ≡ test_of (asked_of q.purpose q.access) q.pages) × (g.on ≡ true) × (g.root < 2 ^ 44) × (signed_of g.scheme ≡ false) × Walkable starts (length first.now) (length second.now) }
-    ensures { result ≡ run (memory (lent starts first.now second.now)) (levelsFrom s q (entry_place g q) (levels_of s) root) }
+    ensures { result ≡ run (memory (lent starts first.now second.now)) (levels_from s q (entry_place g q) (levels_of s) root) }
 {
     let mut n = s.levels() - 1;
     let mut low = top;

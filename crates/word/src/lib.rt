@@ -1,7 +1,7 @@
 // A word as a set of the numbers 0 to 63: number i is in it where bit i is 1. Sources are 1 to 63, so bit 0 counts for nothing.
 ghost use Rattle.std.specs.Prelude.{◌≡◌, true, ◌&&◌, ℕ, ◌<◌, ◌-◌, ◌*◌, ◌/◌};
 ghost use Rattle.std.specs.Int.Bits.{bit_and};
-ghost use Rattle.memory.specs.Bits.{without as withoutOf};
+ghost use Rattle.memory.specs.Bits.{without as without_of};
 ghost use Rattle.word.specs.Word.{contains, put_of, set_of, half, is_source, chosen, only, lowest};
 
 pub fn has(x: u64, n: u64) -> bool
@@ -13,7 +13,7 @@ pub fn has(x: u64, n: u64) -> bool
 
 // The numbers of x that m doesn't have.
 pub fn without(x: u64, m: u64) -> u64
-    ensures { result ≡ withoutOf x m }
+    ensures { result ≡ without_of x m }
 {
     x - (x & m)
 }
