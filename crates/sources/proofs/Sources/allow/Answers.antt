@@ -1,0 +1,7 @@
+-- The goals of `Sources::allow` that the laws of this crate close.
+use Rattle.sources.proofs.Masks.{masks}
+use Rattle.std.proofs.Common.{rules}
+use Rattle.sources.proofs.Sources.allow.Goals as goal
+
+pub returns : goal.returns
+returns c = search (masks, rules)
