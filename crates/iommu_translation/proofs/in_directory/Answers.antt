@@ -1,0 +1,13 @@
+-- The goals of `in_directory` that the laws of this crate close.
+use Rattle.iommu_translation.proofs.Translation.{directory_ways}
+use Rattle.std.proofs.Common.{rules}
+use Rattle.iommu_translation.proofs.in_directory.Goals as goal
+
+pub returns-then-too_wide : goal.returns-then-too_wide
+returns-then-too_wide c = search (directory_ways, rules)
+
+pub returns-in_default : goal.returns-in_default
+returns-in_default c = search (directory_ways, rules)
+
+pub returns : goal.returns
+returns c = search (directory_ways, rules)
