@@ -12,7 +12,7 @@ use hart::Hart;
 use source::Delivery;
 
 // The words that a caller of the C functions lends.
-#[derive(Drop)]
+#[derive(Clone, Copy)]
 pub struct Domain {
     pub words: [u64; 87],
 }
