@@ -118,8 +118,7 @@ fn face(
 }
 
 // A request. Status 0: `out` holds kind, three values and stage; status 1: `out` has fewer than five words, and nothing changed.
-#[unsafe(no_mangle)]
-pub extern "C" fn yasmurekh_request(
+pub fn yasmurekh_request(
     first_start: u64,
     first: &mut [u8],
     second_start: u64,
@@ -151,8 +150,7 @@ pub extern "C" fn yasmurekh_request(
 }
 
 // A take. Status and `out` as for a request.
-#[unsafe(no_mangle)]
-pub extern "C" fn yasmurekh_take(
+pub fn yasmurekh_take(
     first_start: u64,
     first: &mut [u8],
     second_start: u64,

@@ -1,4 +1,4 @@
-// A take of many for C and Rust. It is a crate, and so an object, of its own: there the compiler inlines all of it, and in that of a single take too.
+// A take of many for C and Rust.
 ghost use Rattle.std.specs.Prelude.{◌≡◌};
 ghost use Rattle.memory.specs.Window.{lent_at, Leaves};
 ghost use Rattle.capi_iommu.specs.Calls.{taken_many, status_of, words_of, left_of};
@@ -6,8 +6,7 @@ ghost use Rattle.capi_iommu.specs.Calls.{taken_many, status_of, words_of, left_o
 use memory::Starts;
 
 // A take of many. Status and `out` as for a request.
-#[unsafe(no_mangle)]
-pub extern "C" fn yasmurekh_take_many(
+pub fn yasmurekh_take_many(
     first_start: u64,
     first: &mut [u8],
     second_start: u64,

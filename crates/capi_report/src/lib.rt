@@ -56,8 +56,7 @@ fn put_pairs(bytes: &[u8], out: &mut [u64]) -> u64
 }
 
 // A report. Status 0: `out` holds the refusal, the count, and 32 pairs of doublewords, pending then enable; status 1: `out` has fewer than 66 words, and nothing changed.
-#[unsafe(no_mangle)]
-pub extern "C" fn yasmurekh_report<'a>(
+pub fn yasmurekh_report<'a>(
     first_start: u64,
     first: &'a [u8],
     second_start: u64,

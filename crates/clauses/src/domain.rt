@@ -1,6 +1,7 @@
 // The rows about an APLIC domain: its making, its wires and registers, and what it delivers.
 use crate::state;
 use crate::state::State;
+use std::io;
 
 // MODE, which word 7 has; all others are zero at reset.
 pub fn reset(s: State, n: [u64; 7], domain: &mut [u64; 87]) -> State {
@@ -15,12 +16,12 @@ pub fn reset(s: State, n: [u64; 7], domain: &mut [u64; 87]) -> State {
 }
 
 // SOURCE and LEVEL.
-pub fn wire(s: State, n: [u64; 7], domain: &mut [u64; 87]) -> State {
+pub fn wire(rt: &impl Print, s: State, n: [u64; 7], domain: &mut [u64; 87]) -> io::Result<State> {
     if 1 < n[1] {
-        return state::broken(s);
+        return Ok(state::broken(s));
     }
     let refusal = capi_aplic::yasmurekh_aplic_wire(domain, n[0], n[1]);
-    state::one(s, refusal)
+    state::one(rt, s, refusal)
 }
 
 // OFFSET and VALUE.
@@ -33,28 +34,28 @@ pub fn write(s: State, n: [u64; 7], domain: &mut [u64; 87]) -> State {
 }
 
 // OFFSET.
-pub fn read(s: State, n: [u64; 7], domain: &mut [u64; 87]) -> State {
+pub fn read(rt: &impl Print, s: State, n: [u64; 7], domain: &mut [u64; 87]) -> io::Result<State> {
     let mut out = [0u64; 1];
     capi_aplic::yasmurekh_aplic_read(domain, n[0], &mut out);
-    state::one(s, out[0])
+    state::one(rt, s, out[0])
 }
 
-pub fn forward(s: State, domain: &mut [u64; 87]) -> State {
+pub fn forward(rt: &impl Print, s: State, domain: &mut [u64; 87]) -> io::Result<State> {
     let mut out = [0u64; 4];
     capi_aplic::yasmurekh_aplic_forward(domain, &mut out);
-    state::four(s, out[0], out[1], out[2], out[3])
+    state::four(rt, s, out[0], out[1], out[2], out[3])
 }
 
 // HART. A refused call leaves the value at 0.
-pub fn claim(s: State, n: [u64; 7], domain: &mut [u64; 87]) -> State {
+pub fn claim(rt: &impl Print, s: State, n: [u64; 7], domain: &mut [u64; 87]) -> io::Result<State> {
     let mut out = [0u64; 1];
     let refusal = capi_aplic::yasmurekh_aplic_claim(domain, n[0], &mut out);
-    state::two(s, refusal, out[0])
+    state::two(rt, s, refusal, out[0])
 }
 
 // HART.
-pub fn signal(s: State, n: [u64; 7], domain: &mut [u64; 87]) -> State {
+pub fn signal(rt: &impl Print, s: State, n: [u64; 7], domain: &mut [u64; 87]) -> io::Result<State> {
     let mut out = [0u64; 1];
     let refusal = capi_aplic::yasmurekh_aplic_signal(domain, n[0], &mut out);
-    state::two(s, refusal, out[0])
+    state::two(rt, s, refusal, out[0])
 }

@@ -1,11 +1,16 @@
 // Answers a text of rows by the proved routines: a line for each call, with its number and what it answered. reference/README.md has the format.
+#![tactic(auto)]
+
+ghost use Rattle.std.specs.Prelude.{◌≤◌, IfOk, length};
+
 mod domain;
 mod state;
 mod window;
 
 use clauses_row::Row;
-use libc::{STDIN_FILENO, STDOUT_FILENO};
 use state::State;
+use std::io;
+use std::io::Read;
 
 // How many numbers stand after a letter; 8, which no row has, after one that isn't known.
 fn numbers_after(letter: u8) -> usize {
@@ -22,119 +27,147 @@ fn numbers_after(letter: u8) -> usize {
 
 // The rows that need a memory: `first` and `second` have the bytes of the two windows.
 fn on_window(
+    rt: &impl Print,
     letter: u8,
     n: [u64; 7],
     s: State,
     first: &mut [u8; 131072],
     second: &mut [u8; 131072],
-) -> State {
+) -> io::Result<State> {
     if !s.memory {
-        return state::broken(s);
+        return Ok(state::broken(s));
     }
     match letter {
-        b's' => window::lend(s, n),
-        b'w' => window::write(s, n, first),
-        b'n' => window::renew_second(s, n, second),
-        b'o' => window::lend_second(s, n),
-        b'v' => window::write(s, n, second),
-        b'r' => window::request(s, n, first, second),
-        b't' => window::take(s, n, first, second),
-        b'k' => window::take_many(s, n, first, second),
-        _ => window::report(s, n, first, second),
+        b's' => Ok(window::lend(s, n)),
+        b'w' => Ok(window::write(s, n, first)),
+        b'n' => Ok(window::renew_second(s, n, second)),
+        b'o' => Ok(window::lend_second(s, n)),
+        b'v' => Ok(window::write(s, n, second)),
+        b'r' => window::request(rt, s, n, first, second),
+        b't' => window::take(rt, s, n, first, second),
+        b'k' => window::take_many(rt, s, n, first, second),
+        _ => window::report(rt, s, n, first, second),
     }
 }
 
 // The rows that need a domain.
-fn on_domain(letter: u8, n: [u64; 7], s: State, domain: &mut [u64; 87]) -> State {
+fn on_domain(
+    rt: &impl Print,
+    letter: u8,
+    n: [u64; 7],
+    s: State,
+    domain: &mut [u64; 87],
+) -> io::Result<State> {
     if !s.domain {
-        return state::broken(s);
+        return Ok(state::broken(s));
     }
     match letter {
-        b'x' => domain::wire(s, n, domain),
-        b'y' => domain::write(s, n, domain),
-        b'z' => domain::read(s, n, domain),
-        b'f' => domain::forward(s, domain),
-        b'c' => domain::claim(s, n, domain),
-        _ => domain::signal(s, n, domain),
+        b'x' => domain::wire(rt, s, n, domain),
+        b'y' => Ok(domain::write(s, n, domain)),
+        b'z' => domain::read(rt, s, n, domain),
+        b'f' => domain::forward(rt, s, domain),
+        b'c' => domain::claim(rt, s, n, domain),
+        _ => domain::signal(rt, s, n, domain),
     }
 }
 
 // A letter and as many numbers as it has.
 fn obey(
+    rt: &impl Print,
     row: Row,
     s: State,
     first: &mut [u8; 131072],
     second: &mut [u8; 131072],
     domain: &mut [u64; 87],
-) -> State {
+) -> io::Result<State> {
     let letter = row.letter;
     let n = row.numbers;
     if numbers_after(letter) != row.count {
-        return state::broken(s);
+        return Ok(state::broken(s));
     }
     match letter {
-        b'm' => window::renew(s, n, first, second),
+        b'm' => Ok(window::renew(s, n, first, second)),
         b's' | b'w' | b'n' | b'o' | b'v' | b'r' | b't' | b'k' | b'p' => on_window(
-            letter, n, s, first, second,
+            rt, letter, n, s, first, second,
         ),
-        b'd' => domain::reset(s, n, domain),
-        _ => on_domain(letter, n, s, domain),
+        b'd' => Ok(domain::reset(s, n, domain)),
+        _ => on_domain(rt, letter, n, s, domain),
     }
 }
 
 // An empty line and a remark do nothing.
 fn line(
+    rt: &impl Print,
     text: &[u8],
     s: State,
     first: &mut [u8; 131072],
     second: &mut [u8; 131072],
     domain: &mut [u64; 87],
-) -> State {
+) -> io::Result<State> {
     if text.len() == 0 {
-        return s;
+        return Ok(s);
     }
     if text[0] == b'#' {
-        return s;
+        return Ok(s);
     }
-    obey(clauses_row::read(text), s, first, second, domain)
+    obey(rt, clauses_row::read(text), s, first, second, domain)
 }
 
-fn bad(number: u64) {
-    io::write_all(STDOUT_FILENO, b"bad line ");
-    io::print_decimal(STDOUT_FILENO, number);
-    io::write_all(STDOUT_FILENO, b"\n");
+fn bad(rt: &impl Print, number: u64) -> io::Result<()> {
+    println!(rt; "bad line {number}")
 }
 
-fn run(text: &[u8], first: &mut [u8; 131072], second: &mut [u8; 131072], domain: &mut [u64; 87]) {
+fn run(
+    rt: &impl Print,
+    text: &[u8],
+    first: &mut [u8; 131072],
+    second: &mut [u8; 131072],
+    domain: &mut [u64; 87],
+) -> io::Result<()> {
     let mut s = state::begin();
     let mut number: u64 = 0;
     let mut at: usize = 0;
     while at < text.len() {
         let end = clauses_row::find(text, at, b'\n');
         number = std::num::wrapping_add_u64(number, 1);
-        s = line(&text[at..end], s, first, second, domain);
+        s = line(rt, &text[at..end], s, first, second, domain)?;
         if s.broken {
-            bad(number);
-            return;
+            return bad(rt, number);
         }
         if end == text.len() {
-            return;
+            return Ok(());
         }
         at = end + 1;
     }
+    Ok(())
+}
+
+// Reads until the buffer is full or the input ends, and says how much it read.
+fn read_full(input: &mut impl Read, buffer: &mut [u8]) -> io::Result<usize>
+    ensures { IfOk result (λ n. n ≤ length buffer.new) }
+{
+    let mut done: usize = 0;
+    while done < buffer.len() {
+        let n = input.read(&mut buffer[done..])?;
+        if n == 0 {
+            return Ok(done);
+        }
+        done += n;
+    }
+    Ok(done)
 }
 
 // A text that doesn't fit says so: its last rows would go unanswered.
-fn main() {
+fn main(rt: HostRuntime) -> io::Result<()> {
     let mut text = [0u8; 262144];
     let mut more = [0u8; 1];
     let mut first = [0u8; 131072];
     let mut second = [0u8; 131072];
     let mut domain = [0u64; 87];
-    let n = io::read_full(STDIN_FILENO, &mut text);
-    if io::read_full(STDIN_FILENO, &mut more) != 0 {
-        io::write_all(STDOUT_FILENO, b"the text has more than 262144 bytes\n");
-        return;
+    let mut input = rt.reader();
+    let n = read_full(&mut input, &mut text)?;
+    if read_full(&mut input, &mut more)? != 0 {
+        return println!(rt; "the text has more than 262144 bytes");
     }
-    run(&text[..n], &mut first, &mut second, &mut domain);
+    run(&rt, &text[..n], &mut first, &mut second, &mut domain)
 }

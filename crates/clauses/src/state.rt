@@ -1,14 +1,14 @@
 // What goes from row to row, and what a call prints.
-use libc::STDOUT_FILENO;
+use std::io;
 
-// Where each window starts and its length (as `io::count` takes it), the directory, how many calls were answered, whether
+// Where each window starts and its length, the directory, how many calls were answered, whether
 // there is a memory and a domain yet, and whether a row broke the format.
 #[derive(Clone, Copy)]
 pub struct State {
     pub first_start: u64,
-    pub first_length: isize,
+    pub first_length: usize,
     pub second_start: u64,
-    pub second_length: isize,
+    pub second_length: usize,
     pub mode: u64,
     pub root: u64,
     pub calls: u64,
@@ -39,55 +39,62 @@ pub fn broken(s: State) -> State {
 }
 
 // Opens a call's line with its number.
-fn open(s: State) -> State {
+fn open(rt: &impl Print, s: State) -> io::Result<State> {
     let mut t = s;
     t.calls = std::num::wrapping_add_u64(s.calls, 1);
-    io::print_decimal(STDOUT_FILENO, t.calls);
-    t
+    print!(rt; "{}", t.calls)?;
+    Ok(t)
 }
 
-fn value(v: u64) {
-    io::write_all(STDOUT_FILENO, b" ");
-    io::print_decimal(STDOUT_FILENO, v);
+fn value(rt: &impl Print, v: u64) -> io::Result<()> {
+    print!(rt; " {v}")
 }
 
-fn close() {
-    io::write_all(STDOUT_FILENO, b"\n");
+fn close(rt: &impl Print) -> io::Result<()> {
+    println!(rt)
 }
 
 // A call's whole line, of one value, two, four or five.
-pub fn one(s: State, a: u64) -> State {
-    let t = open(s);
-    value(a);
-    close();
-    t
+pub fn one(rt: &impl Print, s: State, a: u64) -> io::Result<State> {
+    let t = open(rt, s)?;
+    value(rt, a)?;
+    close(rt)?;
+    Ok(t)
 }
 
-pub fn two(s: State, a: u64, b: u64) -> State {
-    let t = open(s);
-    value(a);
-    value(b);
-    close();
-    t
+pub fn two(rt: &impl Print, s: State, a: u64, b: u64) -> io::Result<State> {
+    let t = open(rt, s)?;
+    value(rt, a)?;
+    value(rt, b)?;
+    close(rt)?;
+    Ok(t)
 }
 
-pub fn four(s: State, a: u64, b: u64, c: u64, d: u64) -> State {
-    let t = open(s);
-    value(a);
-    value(b);
-    value(c);
-    value(d);
-    close();
-    t
+pub fn four(rt: &impl Print, s: State, a: u64, b: u64, c: u64, d: u64) -> io::Result<State> {
+    let t = open(rt, s)?;
+    value(rt, a)?;
+    value(rt, b)?;
+    value(rt, c)?;
+    value(rt, d)?;
+    close(rt)?;
+    Ok(t)
 }
 
-pub fn five(s: State, a: u64, b: u64, c: u64, d: u64, e: u64) -> State {
-    let t = open(s);
-    value(a);
-    value(b);
-    value(c);
-    value(d);
-    value(e);
-    close();
-    t
+pub fn five(
+    rt: &impl Print,
+    s: State,
+    a: u64,
+    b: u64,
+    c: u64,
+    d: u64,
+    e: u64,
+) -> io::Result<State> {
+    let t = open(rt, s)?;
+    value(rt, a)?;
+    value(rt, b)?;
+    value(rt, c)?;
+    value(rt, d)?;
+    value(rt, e)?;
+    close(rt)?;
+    Ok(t)
 }

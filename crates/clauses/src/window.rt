@@ -1,8 +1,9 @@
 // The rows about the memories of the two windows: their making, their bytes, and the calls of the IOMMU over the parts that are lent. Each buffer is as long as its call asks, so the call's status is 0.
-ghost use Rattle.std.specs.Prelude.{◌+◌, ◌≤◌, length};
+ghost use Rattle.std.specs.Prelude.{◌+◌, ◌≤◌, length as length_of};
 
 use crate::state;
 use crate::state::State;
+use std::io;
 
 // START, LENGTH, MODE and ROOT, of the first window.
 pub fn lend(s: State, n: [u64; 7]) -> State {
@@ -11,7 +12,7 @@ pub fn lend(s: State, n: [u64; 7]) -> State {
     }
     let mut t = s;
     t.first_start = n[0];
-    t.first_length = n[1] as isize;
+    t.first_length = n[1] as usize;
     t.mode = n[2];
     t.root = n[3];
     t
@@ -24,7 +25,7 @@ pub fn lend_second(s: State, n: [u64; 7]) -> State {
     }
     let mut t = s;
     t.second_start = n[0];
-    t.second_length = n[1] as isize;
+    t.second_length = n[1] as usize;
     t
 }
 
@@ -45,7 +46,7 @@ pub fn renew_second(s: State, n: [u64; 7], second: &mut [u8; 131072]) -> State {
 }
 
 fn put(bytes: &mut [u8], at: usize, v: u64)
-    requires { at + 8 ≤ length bytes.old }
+    requires { at + 8 ≤ length_of bytes.old }
 {
     memory::put_doubleword(&mut bytes[at..at + 8], v);
 }
@@ -60,18 +61,24 @@ pub fn write(s: State, n: [u64; 7], bytes: &mut [u8; 131072]) -> State {
 }
 
 // DEVICE, PROCESS, FLAGS, ACCESS, ADDRESS, COUNT and DATA. The fifth value is a fault's stage.
-pub fn request(s: State, n: [u64; 7], first: &mut [u8], second: &mut [u8]) -> State {
+pub fn request(
+    rt: &impl Print,
+    s: State,
+    n: [u64; 7],
+    first: &mut [u8],
+    second: &mut [u8],
+) -> io::Result<State> {
     if 3 < n[2] {
-        return state::broken(s);
+        return Ok(state::broken(s));
     }
     if 2 < n[3] {
-        return state::broken(s);
+        return Ok(state::broken(s));
     }
     if 0xFFFFFFFF < n[6] {
-        return state::broken(s);
+        return Ok(state::broken(s));
     }
-    let end = io::count(s.first_length, first);
-    let end2 = io::count(s.second_length, second);
+    let end = s.first_length.min(first.len());
+    let end2 = s.second_length.min(second.len());
     let data = n[6] as u32;
     let mut out = [0u64; 5];
     capi_iommu::yasmurekh_request(
@@ -90,13 +97,19 @@ pub fn request(s: State, n: [u64; 7], first: &mut [u8], second: &mut [u8]) -> St
         data,
         &mut out,
     );
-    state::five(s, out[0], out[1], out[2], out[3], out[4])
+    state::five(rt, s, out[0], out[1], out[2], out[3], out[4])
 }
 
 // FILE and IDENTITY.
-pub fn take(s: State, n: [u64; 7], first: &mut [u8], second: &mut [u8]) -> State {
-    let end = io::count(s.first_length, first);
-    let end2 = io::count(s.second_length, second);
+pub fn take(
+    rt: &impl Print,
+    s: State,
+    n: [u64; 7],
+    first: &mut [u8],
+    second: &mut [u8],
+) -> io::Result<State> {
+    let end = s.first_length.min(first.len());
+    let end2 = s.second_length.min(second.len());
     let mut out = [0u64; 5];
     capi_iommu::yasmurekh_take(
         s.first_start,
@@ -107,13 +120,19 @@ pub fn take(s: State, n: [u64; 7], first: &mut [u8], second: &mut [u8]) -> State
         n[1],
         &mut out,
     );
-    state::four(s, out[0], out[1], out[2], out[3])
+    state::four(rt, s, out[0], out[1], out[2], out[3])
 }
 
 // FILE, DOUBLEWORD and MASK.
-pub fn take_many(s: State, n: [u64; 7], first: &mut [u8], second: &mut [u8]) -> State {
-    let end = io::count(s.first_length, first);
-    let end2 = io::count(s.second_length, second);
+pub fn take_many(
+    rt: &impl Print,
+    s: State,
+    n: [u64; 7],
+    first: &mut [u8],
+    second: &mut [u8],
+) -> io::Result<State> {
+    let end = s.first_length.min(first.len());
+    let end2 = s.second_length.min(second.len());
     let mut out = [0u64; 5];
     capi_many::yasmurekh_take_many(
         s.first_start,
@@ -125,7 +144,7 @@ pub fn take_many(s: State, n: [u64; 7], first: &mut [u8], second: &mut [u8]) -> 
         n[2],
         &mut out,
     );
-    state::four(s, out[0], out[1], out[2], out[3])
+    state::four(rt, s, out[0], out[1], out[2], out[3])
 }
 
 // Every second word of a report from a place on, 32 of them, added up modulo 2^64.
@@ -142,9 +161,15 @@ fn sum(words: [u64; 66], from: usize) -> u64
 }
 
 // FILE. The pairs stand from the third word on, pending before enable.
-pub fn report<'a>(s: State, n: [u64; 7], first: &'a [u8], second: &'a [u8]) -> State {
-    let end = io::count(s.first_length, first);
-    let end2 = io::count(s.second_length, second);
+pub fn report<'a>(
+    rt: &impl Print,
+    s: State,
+    n: [u64; 7],
+    first: &'a [u8],
+    second: &'a [u8],
+) -> io::Result<State> {
+    let end = s.first_length.min(first.len());
+    let end2 = s.second_length.min(second.len());
     let mut out = [0u64; 66];
     capi_report::yasmurekh_report(
         s.first_start,
@@ -154,5 +179,5 @@ pub fn report<'a>(s: State, n: [u64; 7], first: &'a [u8], second: &'a [u8]) -> S
         n[0],
         &mut out,
     );
-    state::four(s, out[0], out[1], sum(out, 2), sum(out, 3))
+    state::four(rt, s, out[0], out[1], sum(out, 2), sum(out, 3))
 }

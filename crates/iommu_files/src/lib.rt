@@ -82,7 +82,8 @@ fn take_lent(
     interrupt_file::take_many(starts.second, second, file, d, mask)
 }
 
-// Takes the pending interrupts of a doubleword of a file that are in a mask: bit k of doubleword d is identity 64 d + k.
+// Takes the pending interrupts of a doubleword of a file that are in a mask: bit k of doubleword d is identity 64 d + k. Inlined in each caller: with two of them the compiler would keep it as a function, and a take of one would be slower.
+#[inline(always)]
 pub fn take_many(
     starts: Starts,
     first: &mut [u8],

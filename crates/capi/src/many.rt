@@ -1,0 +1,32 @@
+// A take of many.
+ghost use Rattle.std.specs.Prelude.{◌≡◌};
+ghost use Rattle.memory.specs.Window.{lent_at, Leaves};
+ghost use Rattle.capi_iommu.specs.Calls.{taken_many, status_of, words_of, left_of};
+
+// A take of many. Status and `out` as for a request.
+#[unsafe(no_mangle)]
+pub extern "C" fn yasmurekh_take_many(
+    first_start: u64,
+    first: &mut [u8],
+    second_start: u64,
+    second: &mut [u8],
+    file: u64,
+    doubleword: u64,
+    mask: u64,
+    out: &mut [u64],
+) -> u64
+    ensures told { result ≡ status_of (taken_many file doubleword mask out.old) }
+    ensures answer { out.new ≡ words_of (lent_at first_start first.old second_start second.old) (taken_many file doubleword mask out.old) }
+    ensures bytes { Leaves (left_of (lent_at first_start first.old second_start second.old) (taken_many file doubleword mask out.old)) first.new second.new }
+{
+    capi_many::yasmurekh_take_many(
+        first_start,
+        first,
+        second_start,
+        second,
+        file,
+        doubleword,
+        mask,
+        out,
+    )
+}
