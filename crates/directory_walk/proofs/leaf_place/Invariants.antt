@@ -9,7 +9,7 @@ abbrev pub invariant-loop-left : goal.invariant-loop-left
 invariant-loop-left l =
     (l.table < 2 ^ 56)
     × (run (memory (lent l.fn.starts l.fn.first l.fn.second)) (leaf_place l.fn.t l.fn.id (guest_place l.fn.g l.fn.x) (l.left - 1) l.table)
-      ≡ run (memory (lent l.fn.starts l.fn.first l.fn.second)) (leaf_place l.fn.t l.fn.id (guest_place l.fn.g l.fn.x) (l.fn.levels - 1) (l.fn.root * 4096)))
+    ≡ run (memory (lent l.fn.starts l.fn.first l.fn.second)) (leaf_place l.fn.t l.fn.id (guest_place l.fn.g l.fn.x) (l.fn.levels - 1) (l.fn.root * 4096)))
 
 abbrev pub decreases-loop-left : goal.decreases-loop-left
 decreases-loop-left l = l.left

@@ -12,7 +12,7 @@ abbrev pub invariant-loop-end : goal.invariant-loop-end
 invariant-loop-end l =
     (l.n < 5) × (l.n < levels_of l.fn.s) × (l.low ≡ 12 + 9 * l.n)
     × (run (memory (lent l.fn.starts l.fn.first l.fn.second)) (levels_at l.fn.q (entry_place l.fn.g l.fn.q) l.fn.s l.n l.at)
-      ≡ run (memory (lent l.fn.starts l.fn.first l.fn.second)) (levels l.fn.s l.fn.q (entry_place l.fn.g l.fn.q) (levels_of l.fn.s) l.fn.root))
+    ≡ run (memory (lent l.fn.starts l.fn.first l.fn.second)) (levels l.fn.s l.fn.q (entry_place l.fn.g l.fn.q) (levels_of l.fn.s) l.fn.root))
 
 abbrev pub decreases-loop-end : goal.decreases-loop-end
 decreases-loop-end l = l.n
