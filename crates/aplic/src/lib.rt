@@ -1,4 +1,6 @@
 // One supervisor leaf domain of an APLIC by value: sources 1 to 63, message delivery or direct delivery to harts 0 to 15. Each call is the one for lent words, on the domain's own.
+#![tactic(auto)]
+
 ghost use Rattle.std.specs.Prelude.{◌≡◌, ◌<◌};
 ghost use Rattle.hart.specs.Hart.{hart_refusal};
 ghost use Rattle.source.specs.Table.{start_of};

@@ -1,41 +1,20 @@
 -- Numbers that a call reads off a word or a target, and the refusal of a wire. Assumes nothing.
-use mathlib.Core.Path.{◌≡◌, refl, sym, ap, ap₂, ◌∙◌, fun_ext}
-use mathlib.Core.Bool.{Bool, true, false, not, ◌&&◌}
-use mathlib.Core.List.{List, map}
-use Prim.Native.Nat.{ℕ, zero, suc, ◌<◌, ◌≤◌, ◌+◌, ◌-◌, ◌*◌, ◌/◌, ◌%◌, ◌^◌}
+use mathlib.Core.Path.{◌≡◌, refl, sym, ap, ap₂, ◌∙◌}
+use mathlib.Core.Bool.{Bool, true, false, not}
+use Prim.Native.Nat.{ℕ, ◌<◌, ◌≤◌, ◌+◌, ◌*◌, ◌/◌, ◌%◌, ◌^◌}
 use native.Mathlib.Nat.{div-one}
 use native.Mathlib.Omega.{arith}
-use borrow.Author.Tests.{eqb-true, eqb-false, lt-ltb, le-ltb}
-use lib.Bits.{bit_and}
-use lib.Dec.{eqb}
-use lib.ListN.{get_or, set, length, length-map, replicate, get_or-replicate}
-use lib.Seq.{get_or-set_same, get_or-set_other}
-use Rattle.memory.specs.Choice.{pick}
-use Rattle.word.specs.Word.{contains, is_source, only, digit, lowest}
-use Rattle.memory.proofs.Truth.{and_true}
-use Rattle.word.proofs.Bits.{within, is_source_lem, zero-digit}
-use Rattle.register.specs.declared.BitRegister.{BitRegister}
-use Rattle.register.specs.declared.Register.{Register}
-use Rattle.register.specs.declared.Register.TheVariants.{DomainCfg, SourceCfg, OfBits, Target, Nothing}
-use Rattle.register.specs.Register.{register_of}
-use Rattle.register.proofs.Known.{source-above, source-below, target-above, target_below}
-use Rattle.register.specs.declared.HartRegister.{HartRegister}
-use Rattle.register.specs.declared.HartRegister.TheVariants.{IDelivery, IForce, IThreshold, TopI}
-use Rattle.hart.specs.declared.Hart.{Hart}
-use Rattle.hart.specs.Hart.{resting, wrote_of, unforced, top_word, hart_refusal}
-use Rattle.hart.specs.Kept.{record_of, kept_of, limit_of, better_of}
-use Rattle.hart.proofs.Records.{same_record, record_small, record_rests, wrote-small}
+use borrow.Author.Tests.{lt-ltb, le-ltb}
+use Rattle.word.specs.Word.{digit}
+use Rattle.word.proofs.Bits.{is_source_lem}
 use Rattle.source.specs.declared.Delivery.{Delivery}
 use Rattle.source.specs.declared.Delivery.TheVariants.{Direct, Message}
 use Rattle.source.specs.declared.Source.{Source}
-use Rattle.source.specs.Source.{direct_of, number_of, sensed, lowered, configured, aimed}
-use Rattle.source.specs.Table.{quiet, start_of, act}
+use Rattle.source.specs.Source.{direct_of, number_of}
 use Rattle.sources.specs.declared.Sources.{Sources}
-use Rattle.sources.specs.Sources.{source_of, table_with, Acts, lined, first_waiting}
+use Rattle.sources.specs.Sources.{source_of}
 use Rattle.aplic_calls.specs.declared.Msi.{Msi}
-use Rattle.aplic_calls.specs.declared.Sent.TheVariants.{Forwarded}
-use Rattle.aplic_calls.specs.Calls.{wire_table, wire_refusal, concerned, change, enabled_by, write_register, read_register, delivery_number, domain_word, forward_table, sends, sent_of, msi_of}
-use Rattle.aplic_calls.specs.Direct.{serves, with_hart, top_at, topi, claim_table, claim_hart, claimed, claim_value, write_hart, read_hart, signalled}
+use Rattle.aplic_calls.specs.Calls.{wire_refusal, delivery_number, domain_word, msi_of}
 
 module _ (ie b : Bool) (d : Delivery) (hb : b ≡ direct_of d) where
   word-by : (x y : Bool) (v : ℕ) → ie ≡ x → b ≡ y → v ≡ 0x80 * 2 ^ 24 + digit x * 2 ^ 8 + digit (not y) * 2 ^ 2 → v ≡ domain_word ie d

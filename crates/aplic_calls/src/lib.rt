@@ -1,4 +1,6 @@
 // What the calls of a domain do to its sources and registers, for the domain by value and for lent words.
+#![tactic(auto)]
+
 ghost use Rattle.std.specs.Prelude.{◌≡◌, ◌<◌};
 ghost use Rattle.source.specs.Source.{number_of};
 ghost use Rattle.sources.specs.Sources.{source_of, Acts};

@@ -23,7 +23,7 @@ use Rattle.source.specs.Source.{direct_of, lowered, handed}
 use Rattle.source.specs.Table.{Table, act}
 use Rattle.sources.specs.declared.Sources.{Sources}
 use Rattle.sources.specs.Sources.{Acts}
-use Rattle.aplic_calls.specs.Direct.{with_hart, top_at, topi, claim_table, claim_hart, claimed, claim_value, read_hart, claims, signalled}
+use Rattle.aplic_calls.specs.Direct.{with_hart, top_at, topi, claim_table, claim_hart, claimed, claim_value, read_hart, signalled}
 use Rattle.aplic_calls.proofs.Tables.{acts_ext, handed-is}
 use Rattle.aplic_calls.proofs.Tops.{Looked, looked_first, looked_next, looked_some, looked_less, looked_done}
 use Rattle.aplic_calls.proofs.Claims.{with_own, unserved-topi, unserved-table, unserved-claim, unserved-value, unserved-read, unserved-signal}

@@ -1,4 +1,6 @@
 // A hart of a domain in lent words: its top interrupt, its registers, its claims, and whether it is signalled.
+#![tactic(auto)]
+
 ghost use Rattle.std.specs.Prelude.{◌≡◌, ◌<◌, ◌≤◌, length as length_of, drop, true, false};
 ghost use Rattle.source.specs.Source.{direct_of};
 ghost use Rattle.aplic_calls.specs.Direct.{top_at, topi, claim_table, claimed, claim_value, read_hart, claims, signalled as signalled_of};

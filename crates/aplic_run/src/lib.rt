@@ -1,4 +1,6 @@
 // A run: calls of a domain given as words, each one's answer written into a lent buffer.
+#![tactic(auto)]
+
 ghost use Rattle.std.specs.Prelude.{◌≡◌, ◌+◌, ◌≤◌, ◌/◌, min, length as length_of};
 ghost use Rattle.aplic.specs.Domain.{table_of};
 ghost use Rattle.aplic_calls.specs.Run.{after, answer, sent};

@@ -1,4 +1,6 @@
 // The domain in words that the caller lends, changed in place and never copied. For `capi`, which looks at their number first, and for the domain by value, which has 87.
+#![tactic(auto)]
+
 ghost use Rattle.std.specs.Prelude.{◌≡◌, ◌<◌, ◌≤◌, length as length_of, drop, set, false};
 ghost use Rattle.register.specs.Register.{register_of, idc_of};
 ghost use Rattle.aplic_calls.specs.Calls.{wire_table, read_register, read_table, after_read, forward_table, sent_of};

@@ -2,14 +2,13 @@
 use mathlib.Core.Path.{◌≡◌, refl, sym, ap, ap₂, ◌∙◌, fun_ext}
 use mathlib.Core.Bool.{Bool, true, false}
 use mathlib.Core.List.{List, [], ◌∷◌}
-use Prim.Native.Nat.{ℕ, zero, suc, ◌+◌, ◌-◌, ◌*◌, ◌%◌, ◌<◌, ◌≤◌}
+use Prim.Native.Nat.{ℕ, zero, suc, ◌+◌, ◌*◌, ◌%◌, ◌<◌, ◌≤◌}
 use native.Mathlib.Nat.{mod-eq_of_lt}
 use native.Mathlib.Omega.{arith}
 use borrow.Author.Tests.{eqb-true, eqb-false, lt-ltb, ltb-true}
 use lib.Dec.{eqb, ltb}
 use lib.ListN.{get_or, set, length, drop, replicate, length-replicate}
 use lib.Seq.{get_or-set_same, get_or-set_other}
-use Rattle.memory.specs.Bits.{bits}
 use Rattle.memory.specs.Choice.{pick}
 use Rattle.memory.proofs.Choices.{pick_same, yes-is}
 use Rattle.word.specs.Word.{is_source, digit}
@@ -26,7 +25,6 @@ use Rattle.source.specs.Table.{quiet, start_of, act}
 use Rattle.sources.specs.declared.Sources.{Sources}
 use Rattle.sources.specs.Sources.{source_of, table_with, Acts}
 use Rattle.aplic_calls.specs.Direct.{serves, with_hart}
-use Rattle.aplic_calls.specs.Calls.{change}
 use Rattle.aplic_calls.proofs.Tables.{same-table, acts-table}
 use Rattle.aplic_calls.proofs.Claims.{serve_yes, serve_mode}
 use Rattle.aplic_words.specs.State.{enable_in, sources_in, delivery_in, target_in, record_in, common_in, table_in, mode_word, made_of, with_sources}

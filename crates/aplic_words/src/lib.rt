@@ -1,4 +1,6 @@
 // The words that a caller lends as a domain: what each stands for, read and put in place.
+#![tactic(auto)]
+
 ghost use Rattle.std.specs.Prelude.{◌≡◌, ◌<◌, ◌≤◌, ◌+◌, length as length_of, set};
 ghost use Rattle.hart.specs.Kept.{kept_of};
 ghost use Rattle.aplic_words.specs.State.{enable_in, sources_in, delivery_in, target_in, record_in, with_sources};

@@ -1,4 +1,6 @@
 // A write to a register of a domain in lent words, changed in place and never copied.
+#![tactic(auto)]
+
 ghost use Rattle.std.specs.Prelude.{◌≡◌, ◌<◌, ◌≤◌, length as length_of, drop, true, false};
 ghost use Rattle.word.specs.Word.{only};
 ghost use Rattle.register.specs.Register.{register_of, idc_of};

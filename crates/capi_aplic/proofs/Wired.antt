@@ -5,9 +5,8 @@ use mathlib.Core.List.{List}
 use mathlib.Core.Path.{◌≡◌, refl, sym, ap, ◌∙◌}
 use lib.ListN.{length, set}
 use borrow.Author.Tests.{lt-ltb, le-ltb}
-use Rattle.aplic_calls.specs.declared.Msi.{Msi}
 use Rattle.aplic_calls.specs.declared.Sent.{Sent}
-use Rattle.aplic_calls.specs.declared.Sent.TheVariants.{Idle, Forwarded}
+use Rattle.aplic_calls.specs.declared.Sent.TheVariants.{Idle}
 use Rattle.word.specs.Word.{digit}
 use Rattle.capi_aplic.specs.Wired.{domain_status, room_status, under_status, with_sent}
 

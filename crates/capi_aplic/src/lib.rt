@@ -1,4 +1,6 @@
 // The routines of an APLIC domain for C and Rust: numbers and lent slices alone. Every input is answered.
+#![tactic(auto)]
+
 ghost use Rattle.std.specs.Prelude.{◌≡◌, ◌≤◌, true, false, not, eqb, length as length_of, drop, set};
 ghost use Rattle.register.specs.Register.{idc_of};
 ghost use Rattle.word.specs.Word.{digit};

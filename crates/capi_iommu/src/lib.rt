@@ -1,4 +1,6 @@
 // A request and a take for C and Rust: numbers and lent slices alone. Every input is answered.
+#![tactic(auto)]
+
 ghost use Rattle.std.specs.Prelude.{◌≡◌, ◌≤◌, length as length_of};
 ghost use Rattle.memory.specs.Window.{lent, lent_at, Leaves};
 ghost use Rattle.capi_room.specs.Room.{status};

@@ -1,4 +1,6 @@
 // A take of many for C and Rust.
+#![tactic(auto)]
+
 ghost use Rattle.std.specs.Prelude.{◌≡◌};
 ghost use Rattle.memory.specs.Window.{lent_at, Leaves};
 ghost use Rattle.capi_iommu.specs.Calls.{taken_many, status_of, words_of, left_of};

@@ -1,4 +1,6 @@
 // The report for C and Rust: a file in either lent window, read into the words of a lent buffer.
+#![tactic(auto)]
+
 ghost use Rattle.std.specs.Prelude.{◌≡◌, ◌≤◌, ◌<◌, length as length_of};
 ghost use Rattle.memory.specs.Window.{lent, lent_at};
 ghost use Rattle.iommu_refusals.specs.Code.{Reportable};

@@ -1,4 +1,6 @@
 // What a device asks to do, and what a fault says.
+#![tactic(auto)]
+
 ghost use Rattle.std.specs.Prelude.{◌≡◌};
 ghost use Rattle.causes.specs.Causes.{is_write, is_execute, access_fault, page_fault, guest_page_fault, disallowed as disallowed_of, stage_number};
 

@@ -1,4 +1,6 @@
 // Reads a line: a letter, then numbers, each after one blank.
+#![tactic(auto)]
+
 ghost use Rattle.std.specs.Prelude.{◌≤◌, ◌<◌, length as length_of};
 
 // A letter of 0 stands for a line that can't be read.

@@ -1,4 +1,6 @@
 // The contexts of devices and processes, with the checks that 003 makes of them.
+#![tactic(auto)]
+
 ghost use Rattle.std.specs.Prelude.{◌≡◌, ◌<◌, ◌^◌};
 ghost use Rattle.memory.specs.Choice.{any};
 ghost use Rattle.directory_context.specs.Device.{device_misconfigured, decoded_of};

@@ -1,4 +1,6 @@
 // The device directory: the context of a device.
+#![tactic(auto)]
+
 ghost use Rattle.std.specs.Prelude.{◌≡◌, length, ◌-◌, ◌*◌, ◌%◌, ◌<◌, ◌≤◌, ◌^◌};
 ghost use Rattle.memory.specs.Window.{doubleword, lent, memory};
 ghost use Rattle.memory.specs.Walk.{run};

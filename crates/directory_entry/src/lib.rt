@@ -1,4 +1,6 @@
 // What one entry of either directory says, and the fields that their doublewords share.
+#![tactic(auto)]
+
 ghost use Rattle.std.specs.Prelude.{◌≡◌, false, ◌*◌, ◌<◌, ◌^◌};
 ghost use Rattle.paging_scheme.specs.Scheme.{signed_of};
 ghost use Rattle.directory_entry.specs.Entries.{load_fault, invalid as invalid_of, misconfigured as misconfigured_of, pointer_of, by_level, directory_index, leaf_size, too_wide};

@@ -1,4 +1,6 @@
 // A hart's delivery record, and the keys by which its top interrupt is found.
+#![tactic(auto)]
+
 ghost use Rattle.std.specs.Prelude.{◌≡◌, ◌<◌, ◌≤◌};
 ghost use Rattle.word.specs.Word.{digit};
 ghost use Rattle.hart.specs.Hart.{wrote_of, unforced as unforced_of, top_word, hart_refusal};

@@ -1,4 +1,6 @@
 // A hart's delivery record, lent and changed in place.
+#![tactic(auto)]
+
 ghost use Rattle.std.specs.Prelude.{◌≡◌};
 ghost use Rattle.hart.specs.Hart.{wrote_of, hart_refusal};
 ghost use Rattle.aplic_calls.specs.Direct.{claim_table, claim_hart, topi};

@@ -1,4 +1,6 @@
 // One request, one answer: the whole path over what is lent.
+#![tactic(auto)]
+
 ghost use Rattle.std.specs.Prelude.{◌≡◌, true, ◌+◌, ◌%◌, ◌^◌, ◌≤◌, ◌<◌, length};
 ghost use Rattle.memory.specs.Choice.{pick};
 ghost use Rattle.memory.specs.Window.{Leaves};

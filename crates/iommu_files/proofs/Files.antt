@@ -10,7 +10,7 @@ use lib.Pow.{pow-lt, shl-shr}
 use Rattle.memory.specs.Choice.{pick, unless_refused}
 use Rattle.memory.specs.declared.Starts.{Starts}
 use Rattle.memory.specs.Window.{Lent, lent, Leaves, part_of}
-use Rattle.interrupt_file.specs.File.{is_file, pending_of, after_take, taken_of, after_take_many}
+use Rattle.interrupt_file.specs.File.{is_file, pending_of, taken_of, after_take_many}
 use Rattle.interrupt_file.proofs.Many.{one_left, one-taken}
 use Rattle.interrupt_file.specs.Report.{file_report, refused_report}
 use Rattle.interrupt_file.specs.declared.Report.{Report}
@@ -22,7 +22,7 @@ use Rattle.iommu_files.specs.declared.Answer.{Answer}
 use Rattle.iommu_files.specs.declared.Answer.TheVariants.{Refused, Taken}
 use Rattle.iommu_files.specs.declared.Numbers.{Numbers}
 use Rattle.iommu_files.specs.Answers.{numbers_of, Answered}
-use Rattle.iommu_files.specs.Files.{changed_at, pending_at, taken_at, answered_at, many_taken_at, take_of, after_take_of, take_many_of, after_take_many_of, report_of}
+use Rattle.iommu_files.specs.Files.{changed_at, pending_at, answered_at, many_taken_at, take_of, after_take_of, take_many_of, after_take_many_of, report_of}
 
 -- a change in one window, and none in the other
 module _ (starts : Starts) (xs ys : List ℕ) (file : ℕ) (change : ℕ → List ℕ → List ℕ) (b : Bool) (hb : b ≡ is_file starts.first (length xs) file) where

@@ -1,4 +1,6 @@
 // What calls are answered; a take and a report of an interrupt file, in whichever window holds it.
+#![tactic(auto)]
+
 ghost use Rattle.std.specs.Prelude.{◌≡◌, true, ◌<◌, length};
 ghost use Rattle.memory.specs.Window.{Leaves};
 ghost use Rattle.memory.specs.Code.{Walkable};

@@ -1,5 +1,5 @@
 -- Nothing here has to be believed: the windows' checks as the code makes them, and what a caller may rely on once no check refuses.
-use Rattle.std.specs.Prelude.{ℕ, zero, suc, ◌%◌, ◌<◌, ◌^◌, Bool, true, false, not, ◌||◌, [], ◌∷◌, ◌≡◌, eqb, leb}
+use Rattle.std.specs.Prelude.{ℕ, zero, suc, ◌%◌, ◌<◌, ◌^◌, Bool, true, not, ◌||◌, [], ◌∷◌, ◌≡◌, eqb, leb}
 use Rattle.memory.specs.Choice.{first_bad}
 use Rattle.memory.specs.Code.{Walkable}
 use Rattle.memory.specs.declared.Starts.{Starts}

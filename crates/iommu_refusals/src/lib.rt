@@ -1,4 +1,6 @@
 // What a request, a take and a report ask, and the checks before any table is read.
+#![tactic(auto)]
+
 ghost use Rattle.std.specs.Prelude.{◌≡◌, ◌&&◌, leb, ◌+◌, ◌^◌, ◌<◌};
 ghost use Rattle.memory.specs.Code.{Walkable};
 ghost use Rattle.iommu_refusals.specs.Refusals.{bad_windows, overlap, is_lent_file, bad_directory, bad_process, absent, bad_length, request_refusal, take_many_refusal, report_refusal};

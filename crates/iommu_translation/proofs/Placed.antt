@@ -1,5 +1,5 @@
 -- What a recorded message carries: addresses that were read, of entries that lie whole in one page. Assumes nothing.
-use Prim.Native.Nat.{ℕ, ◌-◌, ◌%◌, ◌^◌}
+use Prim.Native.Nat.{ℕ, ◌%◌, ◌^◌}
 use mathlib.Core.Bool.{Bool, true, false, ◌||◌}
 use mathlib.Core.Path.{◌≡◌, sym, subst}
 use lib.Dec.{eqb, ltb}

@@ -1,4 +1,6 @@
 // A small memory for the programs, the first window: a device directory of one level, files, and a message table, each a page.
+#![tactic(auto)]
+
 ghost use Rattle.std.specs.Prelude.{◌≤◌};
 
 use causes::Access;

@@ -5,7 +5,7 @@ use mathlib.Core.Bool.{true, false}
 use mathlib.Core.List.{List, [], ◌∷◌, ◌++◌}
 use native.Mathlib.Omega.{arith}
 use lib.Count.{ones_in, ones}
-use lib.ListN.{length, replicate}
+use lib.ListN.{replicate}
 use Rattle.memory.specs.Code.{eight}
 use Rattle.memory.specs.Window.{Lent, window_at, memory}
 use Rattle.causes.specs.declared.Access.TheVariants.{Write}

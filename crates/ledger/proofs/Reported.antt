@@ -4,7 +4,7 @@ use mathlib.Core.Path.{◌≡◌, refl, sym, ap, ap₂, ◌∙◌}
 use mathlib.Core.List.{List}
 use native.Mathlib.Omega.{arith}
 use lib.Count.{ones}
-use lib.ListN.{get_or, take, drop}
+use lib.ListN.{take, drop}
 use Rattle.memory.specs.Window.{doubleword}
 use Rattle.memory.proofs.Loads.{part-word}
 use Rattle.interrupt_file.specs.Bit.{bit_at}

@@ -1,1 +1,3 @@
+#![tactic(auto)]
+
 // Demand 3: lists of calls, and the ledger that their history gives.

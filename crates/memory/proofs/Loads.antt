@@ -1,6 +1,5 @@
 -- An entry's bytes and the doublewords in them, over both windows. Assumes nothing.
-use Rattle.std.proofs.Common.{◌≡◌, ℕ, ◌+◌, ◌-◌, ◌/◌, ◌%◌, ◌^◌, ◌<◌, ◌≤◌, Bool, true, false, ltb, leb, List, [], ◌∷◌, length, get_or, take, drop, set, sym, refl, ap, ◌∙◌, subst, ap₂, add-zero, arith, length-drop, length-take-le, get_or-drop, get_or-take, ltb-false, ltb-true, le-leb, leb-false, leb-true}
-use borrow.Author.Tests.{lt-leb}
+use Rattle.std.proofs.Common.{◌≡◌, ℕ, ◌+◌, ◌-◌, ◌/◌, ◌%◌, ◌^◌, ◌<◌, ◌≤◌, Bool, true, false, ltb, leb, List, [], ◌∷◌, length, get_or, take, drop, set, sym, refl, ap, ◌∙◌, subst, ap₂, add-zero, arith, length-drop, length-take-le, get_or-drop, get_or-take, ltb-false, ltb-true, leb-true}
 use Rattle.memory.specs.Choice.{pick}
 use Rattle.memory.specs.Window.{inside, doubleword, Window, Lent, lent, holds, part_of, memory}
 use Rattle.memory.specs.Code.{eight, load_of}
@@ -8,7 +7,6 @@ use Rattle.memory.specs.declared.Starts.{Starts}
 use Rattle.memory.specs.declared.Load.{Load}
 use Rattle.memory.specs.declared.Load.TheVariants.{Value, Violation}
 use Rattle.memory.proofs.Truth.{and_true}
-use Rattle.memory.proofs.Choices.{yes-is, no-is}
 
 -- what a test that holds says of a part's ends
 module _ (start len a size : ℕ) (b : Bool) (hb : b ≡ inside start len a size) (t : b ≡ true) where

@@ -1,8 +1,7 @@
 -- Two windows of which no doubleword is in both are the same memory in either order. Assumes nothing.
-use Rattle.std.proofs.Common.{◌≡◌, ℕ, Bool, true, false, List, length, sym, refl, ap, ◌∙◌, subst}
+use Rattle.std.proofs.Common.{◌≡◌, ℕ, Bool, true, false, List, length, refl}
 use mathlib.Core.Path.{fun_ext}
 use Rattle.memory.specs.Choice.{pick}
-use Rattle.memory.specs.Walk.{Walk, run}
 use Rattle.memory.specs.Window.{inside, window_at, lent, load_in, memory}
 use Rattle.memory.specs.Code.{Disjoint, Walkable, turned_starts}
 use Rattle.memory.specs.declared.Starts.{Starts}

@@ -1,5 +1,5 @@
 -- Windows are whole pages: an entry, or a file, lies whole in one window or in none. Assumes nothing.
-use Rattle.std.proofs.Common.{◌≡◌, ℕ, ◌+◌, ◌-◌, ◌*◌, ◌/◌, ◌%◌, ◌<◌, ◌≤◌, Bool, true, false, ◌&&◌, leb, List, length, sym, refl, ap, ◌∙◌, ap₂, mul_assoc, mul-le-mul_left, mul-one, mul-add, arith, le-leb, leb-false, leb-true}
+use Rattle.std.proofs.Common.{◌≡◌, ℕ, ◌+◌, ◌*◌, ◌/◌, ◌%◌, ◌<◌, ◌≤◌, Bool, true, false, ◌&&◌, leb, List, length, sym, refl, ap, ◌∙◌, ap₂, mul_assoc, mul-le-mul_left, mul-one, mul-add, arith, le-leb, leb-false, leb-true}
 use Rattle.memory.specs.Window.{inside, doubleword, lent, holds, part_of, memory}
 use Rattle.memory.specs.Code.{Paged}
 use Rattle.memory.specs.declared.Starts.{Starts}

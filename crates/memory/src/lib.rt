@@ -1,4 +1,6 @@
 // The two lent windows as memory.
+#![tactic(auto)]
+
 ghost use Rattle.std.specs.Prelude.{◌≡◌, ◌+◌, ◌-◌, ◌%◌, ◌^◌, ◌<◌, ◌≤◌, length};
 ghost use Rattle.memory.specs.Bits.{bit as bit_of, bits, any_set};
 ghost use Rattle.memory.specs.Window.{inside, little, doubleword, lent, part_of, memory};

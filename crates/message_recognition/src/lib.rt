@@ -1,4 +1,6 @@
 // Which guest addresses are messages, and the number of the file that one is for.
+#![tactic(auto)]
+
 ghost use Rattle.std.specs.Prelude.{◌≡◌, ◌^◌, ◌<◌};
 ghost use Rattle.message_recognition.specs.Recognition.{recognised as recognised_of, extract as extract_of};
 ghost use Rattle.message_recognition.specs.Code.{Ready, round_of, Packs};

@@ -3,7 +3,7 @@ use Rattle.std.proofs.Common.{◌≡◌, ℕ, suc, ◌+◌, ◌-◌, ◌*◌, �
 use borrow.Author.Tests.{not-true, not-false}
 use Rattle.memory.specs.declared.Load.{Load}
 use Rattle.memory.specs.Choice.{pick}
-use Rattle.memory.specs.Walk.{Walk, done, bind, run}
+use Rattle.memory.specs.Walk.{Walk, done, run}
 use Rattle.memory.proofs.Walks.{then, loads, at}
 use Rattle.causes.specs.declared.Access.{Access}
 use Rattle.causes.specs.declared.Access.TheVariants.{Read}
@@ -28,7 +28,7 @@ use Rattle.paging_entry.specs.Entry.{faulted, on_load}
 use Rattle.paging_entry.specs.Code.{test_of, raw_load, to_step, told_of, faulty_end, unread_end, code_of, told_by, Tight}
 use Rattle.paging_entry.proofs.EntryLaws.{tested, coded}
 use Rattle.paging.specs.declared.PageTable.{PageTable}
-use Rattle.paging.specs.Levels.{on_place, on_step, entry_at, level_step, levels, walk_of}
+use Rattle.paging.specs.Levels.{on_place, on_step, level_step, levels, walk_of}
 use Rattle.paging.specs.Stages.{direct, guest_lookup, second_stage_of, entry_place, device_lookup, first_stage_of}
 use Rattle.paging.specs.Code.{on_raw, raw_levels, raw_walk, Near, Within, Small, step_at, levels_at}
 use Rattle.paging.proofs.LevelsLaws.{raw-whole}

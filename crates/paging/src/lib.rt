@@ -1,4 +1,6 @@
 // Page-table walks of the first and the second stage.
+#![tactic(auto)]
+
 ghost use Rattle.std.specs.Prelude.{◌≡◌, ◌+◌, ◌-◌, ◌*◌, ◌%◌, ◌^◌, ◌<◌, ◌≤◌, true, false, length};
 ghost use Rattle.memory.specs.Window.{window_at, lent, memory};
 ghost use Rattle.memory.specs.Walk.{run};

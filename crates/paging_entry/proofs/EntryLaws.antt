@@ -1,5 +1,5 @@
 -- The tests of an entry's bits, and the steps without causes, say what the definitions say. Assumes nothing.
-use Prim.Native.Nat.{ℕ, zero, suc, ◌+◌, ◌*◌, ◌/◌, ◌%◌, ◌^◌}
+use Prim.Native.Nat.{ℕ, ◌+◌, ◌*◌, ◌%◌, ◌^◌}
 use mathlib.Core.Bool.{Bool, true, false, not, ◌&&◌}
 use mathlib.Core.Path.{◌≡◌, refl, ap, ◌∙◌}
 use native.Mathlib.Omega.{arith}
@@ -9,10 +9,8 @@ use Rattle.memory.specs.Choice.{pick}
 use Rattle.memory.specs.Bits.{bits, bit}
 use Rattle.memory.specs.declared.Load.{Load}
 use Rattle.memory.specs.declared.Load.TheVariants.{Value, Violation}
-use Rattle.memory.specs.Walk.{Walk, done, run}
 use Rattle.causes.specs.declared.Access.{Access}
 use Rattle.causes.specs.declared.Access.TheVariants.{Read, Write, Execute}
-use Rattle.paging_scheme.specs.declared.Scheme.{Scheme}
 use Rattle.paging_entry.specs.declared.Purpose.{Purpose}
 use Rattle.paging_entry.specs.declared.Lookup.{Lookup}
 use Rattle.paging_entry.specs.declared.Leaf.{Leaf}
@@ -23,7 +21,7 @@ use Rattle.paging_entry.specs.declared.Step.{Step}
 use Rattle.paging_entry.specs.declared.Step.TheVariants.{Stop}
 use Rattle.paging_entry.specs.declared.Raw.{Raw}
 use Rattle.paging_entry.specs.declared.Raw.TheVariants.{Arrive, Next, Faulty, Unread}
-use Rattle.paging_scheme.specs.Scheme.{levels_of, page_bits_of, legal_of}
+use Rattle.paging_scheme.specs.Scheme.{page_bits_of}
 use Rattle.paging_entry.specs.Purpose.{asked_of}
 use Rattle.paging_entry.specs.Entry.{entry_page, kind_of, entry_of, permits, owned_by, allows, mapped_by}
 use Rattle.paging_entry.specs.Entry.{faulted, on_entry, on_load}

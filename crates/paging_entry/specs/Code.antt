@@ -1,14 +1,12 @@
 -- An entry as the code looks at it: a non-leaf by tests of its bits joined by `&`, a leaf by a mask made before the walk, and steps that carry no cause. Nothing that a reader has to believe: `paging_entry.EntryLaws.tested` and `paging_entry.EntryLaws.coded` show that it says what `Entry` says.
-use Rattle.std.specs.Prelude.{ℕ, zero, suc, ◌+◌, ◌-◌, ◌*◌, ◌/◌, ◌%◌, ◌^◌, ◌<◌, Bool, not, ◌&&◌, eqb, ltb}
+use Rattle.std.specs.Prelude.{ℕ, ◌+◌, ◌*◌, ◌%◌, ◌^◌, ◌<◌, Bool, not, ◌&&◌, eqb, ltb}
 use Rattle.std.specs.Int.Bits.{bit_and}
 use Rattle.memory.specs.Choice.{pick}
 use Rattle.memory.specs.Bits.{bits, bit}
 use Rattle.memory.specs.declared.Load.{Load}
 use Rattle.memory.specs.declared.Load.TheVariants.{Value, Violation}
-use Rattle.memory.specs.Walk.{Walk, done, load}
 use Rattle.causes.specs.declared.Access.{Access}
 use Rattle.causes.specs.declared.Access.TheVariants.{Read, Write, Execute}
-use Rattle.paging_scheme.specs.declared.Scheme.{Scheme}
 use Rattle.paging_entry.specs.declared.Purpose.{Purpose}
 use Rattle.paging_entry.specs.declared.Pages.{Pages}
 use Rattle.paging_entry.specs.declared.Pages.TheVariants.{User, Supervisor, Any}
@@ -19,7 +17,7 @@ use Rattle.paging_entry.specs.declared.Step.{Step}
 use Rattle.paging_entry.specs.declared.Step.TheVariants.{Stop}
 use Rattle.paging_entry.specs.declared.Raw.{Raw}
 use Rattle.paging_entry.specs.declared.Raw.TheVariants.{Arrive, Next, Faulty, Unread}
-use Rattle.paging_scheme.specs.Scheme.{levels_of, address_bits_of, signed_of, page_bits_of, legal_of, index_of}
+use Rattle.paging_scheme.specs.Scheme.{page_bits_of}
 use Rattle.paging_entry.specs.Purpose.{page_fault_of, access_fault_of}
 use Rattle.paging_entry.specs.Entry.{entry_page}
 

@@ -1,4 +1,6 @@
 // A page-table entry: what it says, and what it leads to.
+#![tactic(auto)]
+
 ghost use Rattle.std.specs.Prelude.{◌≡◌, ◌<◌};
 ghost use Rattle.causes.specs.Causes.{fault_at};
 ghost use Rattle.causes.specs.declared.Stage.TheVariants.{Second};

@@ -6,7 +6,7 @@ use native.Mathlib.Omega.{arith}
 use native.Mathlib.Nat.{mod-lt, div-eq_of_lt, div-lt_iff_lt-mul}
 use lib.Dec.{eqb, ltb}
 use lib.Pow.{pow_mono, pow_pos, pow-add}
-use borrow.Author.Tests.{ltb-true, ltb-false, eq-eqb, ne_eqb, lt-ltb, le-ltb}
+use borrow.Author.Tests.{ltb-true, ltb-false, eq-eqb, ne_eqb, lt-ltb}
 use Rattle.memory.specs.Choice.{pick}
 use Rattle.paging_scheme.specs.declared.Scheme.{Scheme}
 use Rattle.paging_scheme.specs.declared.Scheme.TheVariants.{Sv39, Sv48, Sv57, Sv39x4, Sv48x4, Sv57x4}

@@ -1,4 +1,6 @@
 // The page-table schemes: levels, index widths, address widths.
+#![tactic(auto)]
+
 ghost use Rattle.std.specs.Prelude.{◌≡◌, ◌+◌, ◌*◌, ◌<◌, ◌^◌};
 ghost use Rattle.paging_scheme.specs.Scheme.{levels_of, root_bits_of, address_bits_of, signed_of, legal_of, page_bits_of, index_of};
 ghost use Rattle.paging_scheme.specs.Code.{free_bits_of};

@@ -1,4 +1,6 @@
 // The registers of a domain's control region.
+#![tactic(auto)]
+
 ghost use Rattle.std.specs.Prelude.{◌≡◌};
 ghost use Rattle.register.specs.Register.{pending_register, enable_register, register_of, idc_of};
 

@@ -5,7 +5,7 @@ use lib.Dec.{eqb}
 use Prim.Native.Nat.{ℕ, ◌+◌, ◌*◌, ◌/◌, ◌%◌}
 use borrow.Author.Tests.{eq-eqb, ne_eqb}
 use native.Mathlib.Nat.{div-one}
-use Rattle.memory.specs.Bits.{bit, bits}
+use Rattle.memory.specs.Bits.{bit}
 use Rattle.memory.proofs.Choices.{no-is}
 use Rattle.source.specs.declared.Delivery.{Delivery}
 use Rattle.source.specs.declared.Delivery.TheVariants.{Direct, Message}

@@ -1,4 +1,6 @@
 // One interrupt source of an APLIC domain: its mode, its wire, its pending and enable bits, its target.
+#![tactic(auto)]
+
 ghost use Rattle.std.specs.Prelude.{◌≡◌};
 ghost use Rattle.source.specs.Source.{mode_from, wired_of, level_of, low_of, by_number, mode_of, number_of, rectified, active_of, configured_pending, configured, aimed};
 ghost use Rattle.source.specs.Source.{direct_of, first_target, configured_target, target_of, aimed_target};

@@ -1,4 +1,6 @@
 // The 63 sources as words of bits, targets apart: bit i of each word is source i's, so that a call acts on all sources of a mask at once.
+#![tactic(auto)]
+
 ghost use Rattle.std.specs.Prelude.{◌≡◌, true, false, ◌<◌};
 ghost use Rattle.word.specs.Word.{contains, only};
 ghost use Rattle.source.specs.Source.{raised, lowered, allowed, sensed};

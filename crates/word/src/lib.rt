@@ -1,4 +1,6 @@
 // A word as a set of the numbers 0 to 63: number i is in it where bit i is 1. Sources are 1 to 63, so bit 0 counts for nothing.
+#![tactic(auto)]
+
 ghost use Rattle.std.specs.Prelude.{◌≡◌, true, ◌&&◌, ℕ, ◌<◌, ◌-◌, ◌*◌, ◌/◌};
 ghost use Rattle.std.specs.Int.Bits.{bit_and};
 ghost use Rattle.memory.specs.Bits.{without as without_of};

@@ -1,1 +1,3 @@
+#![tactic(auto)]
+
 // The cases of supervisor requests and SUM (Req 02), proved of the definitions.

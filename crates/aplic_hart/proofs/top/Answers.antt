@@ -1,6 +1,5 @@
 -- The goals of `top` that the laws of this crate close.
 use Rattle.aplic_hart.proofs.Harts.{tops}
-use Rattle.aplic_calls.proofs.Tops.{Looked}
 use Rattle.std.proofs.Common.{rules}
 use Rattle.aplic_hart.proofs.top.Goals as goal
 

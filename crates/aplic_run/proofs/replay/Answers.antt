@@ -1,5 +1,5 @@
 -- One more call is run, and its answer is in the buffer.
-use Rattle.std.proofs.Common.{arith, rules}
+use Rattle.std.proofs.Common.{rules}
 use Rattle.aplic_run.proofs.Runs.{none-run, one_more, all-run}
 use Rattle.aplic_run.proofs.replay.Goals as goal
 

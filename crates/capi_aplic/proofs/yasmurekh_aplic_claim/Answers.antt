@@ -1,6 +1,6 @@
 -- The goals of `yasmurekh_aplic_claim` that the laws of this crate close.
 use Rattle.aplic_calls.proofs.Claims.{below_of}
-use Rattle.capi_aplic.proofs.Wired.{state-short, state-long, room-short, room-long, left-short, left_by, left-refused, refused-by, value-by}
+use Rattle.capi_aplic.proofs.Wired.{state-short, state-long, room-short, room-long, left_by, left-refused, refused-by, value-by}
 use Rattle.std.proofs.Common.{rules}
 use Rattle.capi_aplic.proofs.yasmurekh_aplic_claim.Goals as goal
 

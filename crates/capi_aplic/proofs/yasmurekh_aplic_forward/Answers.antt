@@ -1,6 +1,6 @@
 -- The goals of `yasmurekh_aplic_forward` that the laws of this crate close.
-use Rattle.capi_room.proofs.Rooms.{short-told, room_ways}
-use Rattle.capi_aplic.proofs.Wired.{state-short, state-long, left-short, left-done, refused_none, sent-told, idle_kept}
+use Rattle.capi_room.proofs.Rooms.{room_ways}
+use Rattle.capi_aplic.proofs.Wired.{state-short, state-long, left-short, left-done, sent-told, idle_kept}
 use Rattle.std.proofs.Common.{rules}
 use Rattle.capi_aplic.proofs.yasmurekh_aplic_forward.Goals as goal
 

@@ -1,6 +1,6 @@
 -- The goals of `yasmurekh_aplic_read` that the laws of this crate close.
 use Rattle.capi_room.proofs.Rooms.{room_ways}
-use Rattle.capi_aplic.proofs.Wired.{state-short, state-long, left-short, left-done, refused_none, value-told}
+use Rattle.capi_aplic.proofs.Wired.{state-short, state-long, left-short, left-done}
 use Rattle.std.proofs.Common.{rules}
 use Rattle.capi_aplic.proofs.yasmurekh_aplic_read.Goals as goal
 

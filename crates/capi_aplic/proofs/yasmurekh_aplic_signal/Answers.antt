@@ -1,6 +1,6 @@
 -- The goals of `yasmurekh_aplic_signal` that the laws of this crate close.
 use Rattle.aplic_calls.proofs.Claims.{below_of}
-use Rattle.capi_aplic.proofs.Wired.{state-short, state-long, room-short, room-long, left-short, left-refused, flag_by}
+use Rattle.capi_aplic.proofs.Wired.{state-short, state-long, room-short, room-long, left-refused, flag_by}
 use Rattle.std.proofs.Common.{rules}
 use Rattle.capi_aplic.proofs.yasmurekh_aplic_signal.Goals as goal
 

@@ -1,5 +1,5 @@
 -- The goals of `yasmurekh_aplic_wire` that the laws of this crate close.
-use Rattle.capi_aplic.proofs.Wired.{state-short, state-long, left-short, left_by, left-refused, refused-by}
+use Rattle.capi_aplic.proofs.Wired.{state-short, state-long, left_by, left-refused, refused-by}
 use Rattle.std.proofs.Common.{rules}
 use Rattle.capi_aplic.proofs.yasmurekh_aplic_wire.Goals as goal
 

@@ -1,5 +1,5 @@
 -- The goals of `yasmurekh_aplic_write` that the laws of this crate close.
-use Rattle.capi_aplic.proofs.Wired.{state-short, state-long, left-short, left-done, refused_none}
+use Rattle.capi_aplic.proofs.Wired.{state-short, state-long, left-short, left-done}
 use Rattle.std.proofs.Common.{rules}
 use Rattle.capi_aplic.proofs.yasmurekh_aplic_write.Goals as goal
 

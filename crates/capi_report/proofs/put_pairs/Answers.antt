@@ -1,6 +1,6 @@
 -- One more pair is put, and its ones counted.
 use Rattle.std.proofs.Common.{arith}
-use Rattle.capi_report.proofs.Pairs.{none-put, one_more, all-put}
+use Rattle.capi_report.proofs.Pairs.{none-put, one_more}
 use Rattle.capi_report.proofs.put_pairs.Goals as goal
 
 pub loop-k-init : goal.loop-k-init

@@ -1,6 +1,6 @@
 -- One law for each return; no write changes the buffer's length.
 use Rattle.std.proofs.Common.{arith, rules}
-use Rattle.capi_room.proofs.Rooms.{room_ways, long-told}
+use Rattle.capi_room.proofs.Rooms.{room_ways}
 use Rattle.capi_report.proofs.Pairs.{long-report}
 use Rattle.capi_report.proofs.yasmurekh_report.Goals as goal
 

@@ -1,7 +1,6 @@
 -- The mask of a context that passed the checks is below 2^52.
-use Rattle.std.proofs.Common.{arith, rules}
+use Rattle.std.proofs.Common.{arith}
 use Rattle.directory_context.proofs.Device.{mask-small}
-use Rattle.directory_device.proofs.Device.{device_checked_ways}
 use Rattle.directory_device.proofs.checked_device.Goals as goal
 
 pub decode-requires : goal.decode-requires

@@ -1,5 +1,5 @@
 -- The goals of `record_message` that the laws of this crate close.
-use Rattle.iommu.proofs.Requests.{stored-left, of_number, record_ways}
+use Rattle.iommu.proofs.Requests.{record_ways}
 use Rattle.std.proofs.Common.{rules}
 use Rattle.iommu.proofs.record_message.Goals as goal
 

@@ -1,5 +1,5 @@
 -- The goals of `request_refusal` that the laws of this crate close.
-use Rattle.iommu_refusals.proofs.Refusals.{is_number, request_checks}
+use Rattle.iommu_refusals.proofs.Refusals.{request_checks}
 use Rattle.std.proofs.Common.{rules}
 use Rattle.iommu_refusals.proofs.request_refusal.Goals as goal
 

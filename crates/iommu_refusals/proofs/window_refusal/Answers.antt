@@ -1,5 +1,5 @@
 -- The goals of `window_refusal` that the laws of this crate close.
-use Rattle.iommu_refusals.proofs.Refusals.{is_number, windows_checks}
+use Rattle.iommu_refusals.proofs.Refusals.{windows_checks}
 use Rattle.std.proofs.Common.{rules}
 use Rattle.iommu_refusals.proofs.window_refusal.Goals as goal
 

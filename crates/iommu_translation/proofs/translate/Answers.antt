@@ -1,5 +1,5 @@
 -- The goals of `translate` that the laws of this crate close.
-use Rattle.iommu_translation.proofs.Translation.{mode-off, mode_ways}
+use Rattle.iommu_translation.proofs.Translation.{mode_ways}
 use Rattle.std.proofs.Common.{rules}
 use Rattle.iommu_translation.proofs.translate.Goals as goal
 

@@ -1,5 +1,5 @@
 -- The goals of `Domain::record_after` that the laws of this crate close.
-use Rattle.aplic.proofs.Domains.{long, after}
+use Rattle.aplic.proofs.Domains.{after}
 use Rattle.std.proofs.Common.{rules}
 use Rattle.aplic.proofs.Domain.record_after.Goals as goal
 

@@ -1,6 +1,5 @@
 -- The goals of `Domain::wire` that the laws of this crate close.
 use Rattle.aplic_calls.proofs.Tables.{unwired_table}
-use Rattle.aplic.proofs.Domains.{long}
 use Rattle.aplic.specs.Domain.{table_of}
 use Rattle.std.proofs.Common.{rules}
 use Rattle.aplic.proofs.Domain.wire.Goals as goal
