@@ -166,9 +166,10 @@ def main():
         after = turned(t)
         was = subprocess.run(["git", "show", "HEAD:" + p], capture_output=True, text=True)
         if was.returncode == 0:
-            now = {plain(y): y for y in definitions(after)}
+            names = definitions(after)
+            now = {plain(y): y for y in names}
             for x in definitions(was.stdout):
-                y = now.get(plain(x)) or now.get(plain(x) + "lem")
+                y = x if x in names else new[x] if new.get(x) in names else now.get(plain(x)) or now.get(plain(x) + "lem")
                 if y is None:
                     print(f"look: {p}: no name stands for {x}")
                 elif x != y:
