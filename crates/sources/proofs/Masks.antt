@@ -15,7 +15,7 @@ use Rattle.source.specs.Source.{direct_of, mode_from, active_of, rectified, inpu
 use Rattle.sources.specs.declared.Sources.{Sources}
 use Rattle.sources.specs.Sources.{source_of, Acts, Inputs}
 
-abbrev mk : Bool → Bool → Bool → Bool → Bool → Bool → ℕ → Source
+abbrev pub mk : Bool → Bool → Bool → Bool → Bool → Bool → ℕ → Source
 mk wd lv lo wi p en t = record { mode = mode_from wd lv lo; wire = wi; pending = p; enable = en; target = t }
 
 -- six bits of a source and a mask's, at every row
@@ -23,7 +23,7 @@ abbrev Same : Row 6 → Row 6 → Row 6
 Same f g a b c d e h = same (f a b c d e h) (g a b c d e h)
 
 -- ---- the rectified input
-abbrev input' : Bool → Bool → Bool → Bool
+abbrev pub input' : Bool → Bool → Bool → Bool
 input' wd lo wi = wd && other wi lo
 
 input-bits : (wd lv lo wi : Bool) → input' wd lo wi ≡ rectified (mode_from wd lv lo) wi
@@ -34,7 +34,7 @@ unfolding Inputs source_of
 inputs_are s i t = simp (bit_and_lem, bit_xor_lem) (input-bits (contains s.wired i) (contains s.level i) (contains s.low i) (contains s.wires i))
 
 -- ---- a source whose pending bit alone changes
-row_of : (m wd lv lo wi p en q : Bool) (t : ℕ) (f : Source → Source)
+pub row_of : (m wd lv lo wi p en q : Bool) (t : ℕ) (f : Source → Source)
     → q ≡ pick m (f (mk wd lv lo wi p en t)).pending p
     → f (mk wd lv lo wi p en t) ≡ mk wd lv lo wi (f (mk wd lv lo wi p en t)).pending en t
     → mk wd lv lo wi q en t ≡ pick m (f (mk wd lv lo wi p en t)) (mk wd lv lo wi p en t)
@@ -42,53 +42,58 @@ row_of true wd lv lo wi p en q t f e h = ap (λ (x : Bool). mk wd lv lo wi x en 
 row_of false wd lv lo wi p en q t f e h = ap (λ (x : Bool). mk wd lv lo wi x en t) e
 
 -- the bits of a mask, and what the rules make of a source, in each delivery mode
-abbrev raise' : Bool → Row 6
+abbrev pub raise' : Bool → Row 6
 raise' di m wd lv lo wi p = m && ((wd || lo) && not ((wd && lv) && not (other wi lo && not di))) || p
 
-abbrev lower' : Bool → Row 6
+abbrev pub lower' : Bool → Row 6
 lower' di m wd lv lo wi p = p && not (m && ((wd || lo) && not ((wd && lv) && di)))
 
-abbrev raised' : Delivery → Row 6
+abbrev pub raised' : Delivery → Row 6
 raised' d m wd lv lo wi p = pick m (new_pending d (mode_from wd lv lo) (setip (rectified (mode_from wd lv lo) wi)) p) p
 
-abbrev lowered' : Delivery → Row 6
+abbrev pub lowered' : Delivery → Row 6
 lowered' d m wd lv lo wi p = pick m (new_pending d (mode_from wd lv lo) clrip p) p
 
-raise-bits : (d : Delivery) (m wd lv lo wi p : Bool) → raise' (direct_of d) m wd lv lo wi p ≡ raised' d m wd lv lo wi p
+pub raise-bits : (d : Delivery) (m wd lv lo wi p : Bool) → raise' (direct_of d) m wd lv lo wi p ≡ raised' d m wd lv lo wi p
 raise-bits Direct m wd lv lo wi p = is_same _ _ (every 6 (Same (raise' true) (raised' Direct)) refl m wd lv lo wi p)
 raise-bits Message m wd lv lo wi p = is_same _ _ (every 6 (Same (raise' false) (raised' Message)) refl m wd lv lo wi p)
 
-lower-bits : (d : Delivery) (m wd lv lo wi p : Bool) → lower' (direct_of d) m wd lv lo wi p ≡ lowered' d m wd lv lo wi p
+pub lower-bits : (d : Delivery) (m wd lv lo wi p : Bool) → lower' (direct_of d) m wd lv lo wi p ≡ lowered' d m wd lv lo wi p
 lower-bits Direct m wd lv lo wi p = is_same _ _ (every 6 (Same (lower' true) (lowered' Direct)) refl m wd lv lo wi p)
 lower-bits Message m wd lv lo wi p = is_same _ _ (every 6 (Same (lower' false) (lowered' Message)) refl m wd lv lo wi p)
 
-raise-row : (d : Delivery) (m wd lv lo wi p en : Bool) (t : ℕ) → mk wd lv lo wi (raise' (direct_of d) m wd lv lo wi p) en t ≡ pick m (raised d (mk wd lv lo wi p en t)) (mk wd lv lo wi p en t)
-unfolding raised
-raise-row d m wd lv lo wi p en t = row_of m wd lv lo wi p en _ t (raised d) (raise-bits d m wd lv lo wi p) refl
-
-lower-row : (d : Delivery) (m wd lv lo wi p en : Bool) (t : ℕ) → mk wd lv lo wi (lower' (direct_of d) m wd lv lo wi p) en t ≡ pick m (lowered d (mk wd lv lo wi p en t)) (mk wd lv lo wi p en t)
-unfolding lowered
-lower-row d m wd lv lo wi p en t = row_of m wd lv lo wi p en _ t (lowered d) (lower-bits d m wd lv lo wi p) refl
+-- each row of a formula for the pending bit is what a rule makes of the source
+abbrev pub EachRow : Row 6 → (Source → Source) → Type 0
+EachRow f rule =
+    (m wd lv lo wi p en : Bool) (t : ℕ) → mk wd lv lo wi (f m wd lv lo wi p) en t ≡ pick m (rule (mk wd lv lo wi p en t)) (mk wd lv lo wi p en t)
 
 -- with other pending bits
-abbrev pended : Sources → ℕ → Sources
+abbrev pub pended : Sources → ℕ → Sources
 pended s p = record { wired = s.wired; level = s.level; low = s.low; wires = s.wires; pending = p; enable = s.enable }
 
--- e has every source in direct delivery, and none in message delivery
+-- e has every source in direct delivery, and none in message delivery; row: what the truth table makes of one source
 module _ (s : Sources) (d : Delivery) (mask e : ℕ) (b : Bool) (hb : b ≡ direct_of d) (he : (i : ℕ) → is_source i ≡ true → contains e i ≡ b) where
   direct-at : (i : ℕ) → 0 < i → i < 64 → contains e i ≡ direct_of d
   direct-at i p q = he i (is_source_lem i p q) ∙ hb
 
-  pub raises : (h a o : ℕ) → h ≡ without (bit_xor s.wires s.low) e → a ≡ without (bit_and s.wired s.level) h → o ≡ without (bit_or s.wired s.low) a
+  abbrev pub Raises : Type 0
+  Raises =
+      (h a o : ℕ) → h ≡ without (bit_xor s.wires s.low) e → a ≡ without (bit_and s.wired s.level) h → o ≡ without (bit_or s.wired s.low) a
       → Acts (contains mask) (raised d) s (pended s (bit_or (bit_and mask o) s.pending))
-  unfolding Acts source_of
-  raises h a o hh ha ho i t p q =
-      rw (ho, ha, hh) (simp (bit_or_lem, bit_and_lem, bit-without, bit_xor_lem, direct-at i p q) (raise-row d (contains mask i) (contains s.wired i) (contains s.level i) (contains s.low i) (contains s.wires i) (contains s.pending i) (contains s.enable i) t))
 
-  pub lowers : (o z : ℕ) → o ≡ without (bit_or s.wired s.low) (bit_and (bit_and s.wired s.level) e) → z ≡ without s.pending (bit_and mask o) → Acts (contains mask) (lowered d) s (pended s z)
+  pub raises_by : EachRow (raise' (direct_of d)) (raised d) → Raises
   unfolding Acts source_of
-  lowers o z ho hz i t p q =
-      rw (hz, ho) (simp (bit_or_lem, bit_and_lem, bit-without, direct-at i p q) (lower-row d (contains mask i) (contains s.wired i) (contains s.level i) (contains s.low i) (contains s.wires i) (contains s.pending i) (contains s.enable i) t))
+  raises_by row h a o hh ha ho i t p q =
+      rw (ho, ha, hh) (simp (bit_or_lem, bit_and_lem, bit-without, bit_xor_lem, direct-at i p q) (row (contains mask i) (contains s.wired i) (contains s.level i) (contains s.low i) (contains s.wires i) (contains s.pending i) (contains s.enable i) t))
+
+  abbrev pub Lowers : Type 0
+  Lowers =
+      (o z : ℕ) → o ≡ without (bit_or s.wired s.low) (bit_and (bit_and s.wired s.level) e) → z ≡ without s.pending (bit_and mask o) → Acts (contains mask) (lowered d) s (pended s z)
+
+  pub lowers_by : EachRow (lower' (direct_of d)) (lowered d) → Lowers
+  unfolding Acts source_of
+  lowers_by row o z ho hz i t p q =
+      rw (hz, ho) (simp (bit_or_lem, bit_and_lem, bit-without, direct-at i p q) (row (contains mask i) (contains s.wired i) (contains s.level i) (contains s.low i) (contains s.wires i) (contains s.pending i) (contains s.enable i) t))
 
 -- ---- enable bits
 active_bits : (wd lv lo : Bool) → wd || lo ≡ active_of (mode_from wd lv lo)
@@ -121,42 +126,40 @@ module _ (s : Sources) (mask : ℕ) where
       rw hq (simp bit-without (forbid-row (contains mask i) (contains s.wired i) (contains s.level i) (contains s.low i) (contains s.wires i) (contains s.pending i) (contains s.enable i) t))
 
 -- ---- a wire
-abbrev wire' : Bool → Bool → Bool → Bool
+abbrev pub wire' : Bool → Bool → Bool → Bool
 wire' m on wi = pick on (wi || m) (wi && not m)
 
-abbrev sense' : Bool → Row 7
+abbrev pub sense' : Bool → Row 7
 sense' di m on wd lv lo wi p =
     (m && (wd && lv)) && (input' wd lo (wire' m on wi) && di) || (input' wd lo (wire' m on wi) && not (input' wd lo wi) || p) && not ((m && (wd && lv)) && not (input' wd lo (wire' m on wi)))
 
-abbrev told : Delivery → Row 7
+abbrev pub told : Delivery → Row 7
 told d m on wd lv lo wi p = pick m (new_pending d (mode_from wd lv lo) (input (rectified (mode_from wd lv lo) wi) (rectified (mode_from wd lv lo) on)) p) p
 
-sense-bits : (d : Delivery) (m on wd lv lo wi p : Bool) → sense' (direct_of d) m on wd lv lo wi p ≡ told d m on wd lv lo wi p
+pub sense-bits : (d : Delivery) (m on wd lv lo wi p : Bool) → sense' (direct_of d) m on wd lv lo wi p ≡ told d m on wd lv lo wi p
 sense-bits Direct m on wd lv lo wi p = is_same _ _ (every 7 (λ m on wd lv lo wi p. same (sense' true m on wd lv lo wi p) (told Direct m on wd lv lo wi p)) refl m on wd lv lo wi p)
 sense-bits Message m on wd lv lo wi p = is_same _ _ (every 7 (λ m on wd lv lo wi p. same (sense' false m on wd lv lo wi p) (told Message m on wd lv lo wi p)) refl m on wd lv lo wi p)
 
-wire-bits : (m on wi : Bool) → wire' m on wi ≡ pick m on wi
+pub wire-bits : (m on wi : Bool) → wire' m on wi ≡ pick m on wi
 wire-bits m on wi = is_same _ _ (every 3 (λ m on wi. same (wire' m on wi) (pick m on wi)) refl m on wi)
 
-sense-row : (d : Delivery) (m on wd lv lo wi p en : Bool) (t : ℕ)
+abbrev pub EachSense : Delivery → Bool → Type 0
+EachSense d on =
+    (m wd lv lo wi p en : Bool) (t : ℕ)
     → mk wd lv lo (wire' m on wi) (sense' (direct_of d) m on wd lv lo wi p) en t ≡ pick m (sensed d on (mk wd lv lo wi p en t)) (mk wd lv lo wi p en t)
-unfolding sensed
-sense-row d m on wd lv lo wi p en t = rw (sense-bits d m on wd lv lo wi p, wire-bits m on wi) (go m)
-  where
-    go : (m : Bool) → mk wd lv lo (pick m on wi) (told d m on wd lv lo wi p) en t ≡ pick m (sensed d on (mk wd lv lo wi p en t)) (mk wd lv lo wi p en t)
-    go true = refl
-    go false = refl
 
 module _ (s : Sources) (d : Delivery) (mask e : ℕ) (on b : Bool) (hb : b ≡ direct_of d) (he : (i : ℕ) → is_source i ≡ true → contains e i ≡ b) where
-  pub senses : (w r f q : ℕ) → w ≡ set_of s.wires mask on
+  abbrev pub Senses : Type 0
+  Senses =
+      (w r f q : ℕ) → w ≡ set_of s.wires mask on
       → r ≡ without (bit_and s.wired (bit_xor w s.low)) (bit_and s.wired (bit_xor s.wires s.low))
       → f ≡ without (bit_and mask (bit_and s.wired s.level)) (bit_and s.wired (bit_xor w s.low))
       → q ≡ without (bit_or r s.pending) f
       → Acts (contains mask) (sensed d on) s
       (record { wired = s.wired; level = s.level; low = s.low; wires = w; pending = bit_or (bit_and (bit_and mask (bit_and s.wired s.level)) (bit_and (bit_and s.wired (bit_xor w s.low)) e)) q; enable = s.enable })
-  unfolding Acts source_of
-  senses w r f q hw hr hf hq i t p k =
-      rw (hq, hr, hf, hw)
-      (simp (bit_or_lem, bit_and_lem, bit-without, bit_xor_lem, bit-set, he i (is_source_lem i p k) ∙ hb) (sense-row d (contains mask i) on (contains s.wired i) (contains s.level i) (contains s.low i) (contains s.wires i) (contains s.pending i) (contains s.enable i) t))
 
-pub ruleset masks = (inputs_are, raises, lowers, allows, forbids, senses)
+  pub senses_by : EachSense d on → Senses
+  unfolding Acts source_of
+  senses_by row w r f q hw hr hf hq i t p k =
+      rw (hq, hr, hf, hw)
+      (simp (bit_or_lem, bit_and_lem, bit-without, bit_xor_lem, bit-set, he i (is_source_lem i p k) ∙ hb) (row (contains mask i) (contains s.wired i) (contains s.level i) (contains s.low i) (contains s.wires i) (contains s.pending i) (contains s.enable i) t))
