@@ -8,3 +8,7 @@ status n out = pick (ltb (length out) n) 1 0
 
 unfoldable pub fitting : {A : Type 0} → ℕ → List ℕ → A → A → A
 fitting n out before after = pick (ltb (length out) n) before after
+
+-- the same of two buffers: both must have room
+unfoldable pub fitting_both : {A : Type 0} → ℕ → List ℕ → ℕ → List ℕ → A → A → A
+fitting_both n out m state before after = pick (ltb (length out) n) before (pick (ltb (length state) m) before after)

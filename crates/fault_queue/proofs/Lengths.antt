@@ -1,0 +1,126 @@
+-- Lengths of a queue: numbers with one bit. Assumes nothing.
+use Prim.Native.Nat.{ℕ, zero, suc, ◌+◌, ◌-◌, ◌*◌, ◌/◌, ◌%◌, ◌^◌, ◌≤◌, ◌<◌, min}
+use mathlib.Core.Bool.{true, false}
+use mathlib.Core.Logic.{◌⊎◌, inl, inr, ◌↔◌}
+use mathlib.Core.Path.{◌≡◌, refl, sym, ap, ◌∙◌}
+use native.Mathlib.Nat.{add-zero, pow-suc, zero-min}
+use native.Mathlib.Decide.{dec_lt}
+use native.Mathlib.Omega.{arith}
+use borrow.Author.Tests.{eq-eqb, eqb-true, le-leb, lt-leb, leb-true}
+use lib.Arith.{bin_ind}
+use lib.Bits.{bit_and, and_step, and_self}
+use lib.Count.{ones, ones_step, ones_cat}
+use lib.Dec.{eqb}
+use lib.Pow.{pow-add, pow-lt, pow_pos}
+use Rattle.memory.proofs.Choices.{eqb_same}
+use Rattle.memory.proofs.Truth.{and_true}
+use Rattle.fault_queue.specs.Queue.{legal_length}
+
+ones-zero : ones 0 ≡ 0
+unfolding ones
+ones-zero = refl
+
+ones-one : ones 1 ≡ 1
+unfolding ones
+ones-one = refl
+
+no_ones : (n : ℕ) → ones n ≡ 0 → n ≡ 0
+no_ones = bin_ind (λ n. ones n ≡ 0 → n ≡ 0) (λ e. refl) (λ n ih e. let s = ones_step n in let h = ih (omega arith) in omega arith)
+
+-- the lowest bit
+even_odd : (n : ℕ) → (n % 2 ≡ 0) ⊎ (n % 2 ≡ 1)
+even_odd n = go (n % 2) (omega arith)
+  where
+    go : (r : ℕ) → r < 2 → (r ≡ 0) ⊎ (r ≡ 1)
+    go zero l = inl refl
+    go (suc zero) l = inr refl
+    go (suc (suc r)) l = absurd (omega arith)
+
+-- a number and the one before it
+before-even : (n : ℕ) → 0 < n → n % 2 ≡ 0 → bit_and n (n - 1) ≡ bit_and (n / 2) (n / 2 - 1) * 2
+before-even n p e =
+    let h : (n - 1) / 2 ≡ n / 2 - 1 = omega arith in
+    let m : min (n % 2) ((n - 1) % 2) ≡ 0 = rw (e, zero-min) in
+    rw (and_step n (n - 1), h, m, add-zero)
+
+before-odd : (n : ℕ) → n % 2 ≡ 1 → bit_and n (n - 1) ≡ n / 2 * 2
+before-odd n e =
+    let h : (n - 1) / 2 ≡ n / 2 = omega arith in
+    let l : (n - 1) % 2 ≡ 0 = omega arith in
+    let m : min (n % 2) ((n - 1) % 2) ≡ 0 = rw (e, l) in
+    rw (and_step n (n - 1), h, m, and_self, add-zero)
+
+one_bit : (n : ℕ) → 0 < n → (bit_and n (n - 1) ≡ 0 → ones n ≡ 1) × (ones n ≡ 1 → bit_and n (n - 1) ≡ 0)
+one_bit = bin_ind (λ n. 0 < n → (bit_and n (n - 1) ≡ 0 → ones n ≡ 1) × (ones n ≡ 1 → bit_and n (n - 1) ≡ 0)) (λ p. absurd (omega arith)) (λ n ih p. go n ih p (even_odd n))
+  where
+    go : (n : ℕ) → (0 < n / 2 → (bit_and (n / 2) (n / 2 - 1) ≡ 0 → ones (n / 2) ≡ 1) × (ones (n / 2) ≡ 1 → bit_and (n / 2) (n / 2 - 1) ≡ 0)) → 0 < n → (n % 2 ≡ 0) ⊎ (n % 2 ≡ 1)
+        → (bit_and n (n - 1) ≡ 0 → ones n ≡ 1) × (ones n ≡ 1 → bit_and n (n - 1) ≡ 0)
+    go n ih p (inl e) =
+        let b = before-even n p e in
+        let s = ones_step n in
+        let h = ih (omega arith) in
+        ((λ z. let o = h.0 (omega arith) in omega arith), (λ z. let o = h.1 (omega arith) in omega arith))
+    go n ih p (inr e) =
+        let b = before-odd n e in
+        let s = ones_step n in (
+          (λ z. let o : ones (n / 2) ≡ 0 = ap ones (let q : n / 2 ≡ 0 = omega arith in q) ∙ ones-zero in omega arith),
+          (λ z. let o = no_ones (n / 2) (omega arith) in omega arith),
+        )
+
+-- the tests of the code
+pub short : (len : ℕ) → len < 64 → false ≡ legal_length len
+unfolding legal_length
+short len h = rw (lt-leb 64 len h)
+
+pub long : (len : ℕ) → 64 ≤ len → eqb (bit_and len (len - 1)) 0 ≡ legal_length len
+unfolding legal_length
+long len h = let b = one_bit len (omega arith) in rw (le-leb 64 len h) (eqb_same (bit_and len (len - 1)) 0 (ones len) 1 b.0 b.1)
+
+pub ruleset length_ways = (short, long)
+
+-- a number with one bit is a power of two, and a power of two has one bit
+power : (n : ℕ) → ones n ≡ 1 → (k : ℕ) × (n ≡ 2 ^ k)
+power = bin_ind (λ n. ones n ≡ 1 → (k : ℕ) × (n ≡ 2 ^ k)) (λ e. absurd (omega (arith, ones-zero))) (λ n ih e. go n ih e (even_odd n))
+  where
+    go : (n : ℕ) → (ones (n / 2) ≡ 1 → (k : ℕ) × (n / 2 ≡ 2 ^ k)) → ones n ≡ 1 → (n % 2 ≡ 0) ⊎ (n % 2 ≡ 1) → (k : ℕ) × (n ≡ 2 ^ k)
+    go n ih e (inl z) =
+        let s = ones_step n in
+        let p = ih (omega arith) in
+        (suc p.0, omega (arith, p.1, pow-suc 2 p.0))
+    go n ih e (inr z) =
+        let s = ones_step n in
+        let o = no_ones (n / 2) (omega arith) in
+        (0, omega arith)
+
+ones_power : (k : ℕ) → ones (2 ^ k) ≡ 1
+ones_power k =
+    let e : 2 ^ k ≡ 1 * 2 ^ k + 0 = omega arith in
+    let c = ones_cat k 1 0 (pow_pos k) in
+    ap ones e ∙ (let s : ones (1 * 2 ^ k + 0) ≡ 1 = omega (arith, c, ones-zero, ones-one) in s)
+
+sixth : (k : ℕ) → 2 ^ (6 + k) ≡ 32 * 2 ^ (1 + k)
+sixth k = omega (arith, pow-add 2 6 k, pow-add 2 1 k)
+
+-- "32 times a power of two of at least 2"
+pub legal_length_lem : (len : ℕ) → (legal_length len ≡ true) ↔ ((k : ℕ) × (len ≡ 32 * 2 ^ (1 + k)))
+unfolding legal_length
+legal_length_lem len = (to, from)
+  where
+    to : legal_length len ≡ true → (k : ℕ) × (len ≡ 32 * 2 ^ (1 + k))
+    to e =
+        let p = and_true _ _ e in
+        let l = leb-true 64 len p.0 in
+        let w = power len (eqb-true (ones len) 1 p.1) in
+        go w.0 w.1 l (dec_lt w.0 6)
+      where
+        go : (k : ℕ) → len ≡ 2 ^ k → 64 ≤ len → Dec (k < 6) → (j : ℕ) × (len ≡ 32 * 2 ^ (1 + j))
+        go k e l (yes h) = absurd (omega (arith, pow-lt {i = k} {j = 6} h))
+        go k e l (no h) =
+            let s : k ≡ 6 + (k - 6) = omega arith in
+            (k - 6, e ∙ ap (λ j. 2 ^ j) s ∙ sixth (k - 6))
+
+    from : (k : ℕ) × (len ≡ 32 * 2 ^ (1 + k)) → legal_length len ≡ true
+    from (k, e) =
+        let o : ones len ≡ 1 = ap ones (e ∙ sym (sixth k)) ∙ ones_power (6 + k) in
+        let l : 64 ≤ len = omega (arith, pow-add 2 1 k, pow_pos k) in
+        rw (le-leb 64 len l, eq-eqb (ones len) 1 o)
