@@ -1,14 +1,15 @@
 #!/usr/bin/env python3
 """Respells the repository's own definitions, fields and lemmas as today's Rattle spells its own.
 
-usage: python3 tools/respell.py            at the top of the repository, once, after port.py and before its changes are committed
+usage: python3 tools/respell.py [--look]   at the top of the repository, once, after port.py and before its changes are committed
 
 A name is in snake case (`takeRefusal`: `take_refusal`). In a lemma's name a dash joins two names and `_` adds a plain word
 (`load-at-part`: `load_at-part`, `short-kept`: `short_kept`). A lemma that would have the name of a definition or of a function
 gets `_lem`. Types, variants, modules, functions of src/, exported names, strings, inputs and outputs keep their names.
 
 It writes crates/, and tools/respelled.tsv: for each crate the names of the commit that the tree stands on, and today's, with what
-port.py itself respelled. Where two names of a crate would fall together it says so, and writes nothing.
+port.py itself respelled. Where two names of a crate would fall together it says so, and writes nothing (--anyway writes). --look only prints the names.
+Where tools/respelled.tsv stands it does nothing.
 """
 
 import collections
@@ -24,6 +25,8 @@ CAMEL = re.compile(r"^[a-z][A-Za-z0-9']*[a-z0-9][A-Z][A-Za-z0-9']*$")
 DASHED = re.compile(r"^[A-Za-z][A-Za-z0-9_']*(-[A-Za-z0-9_']+)+$")
 # Kept as they are: with the unfinished crates of Req 04 in the tree both parts of each are names.
 CHOSEN = {n: n for n in ("state-long", "state-short", "access-unknown", "flags-unknown", "unknown-bytes")}
+# Constructors and a definition, no lemmas, with the names of functions of other crates.
+CHOSEN |= {n: n.replace("-", "_") for n in ("yasmurekh-aplic-wire", "yasmurekh-aplic-write", "yasmurekh-aplic-read", "yasmurekh-aplic-forward", "yasmurekh-aplic-claim", "yasmurekh-aplic-signal", "guest-fault")}
 
 
 def snake(word):
@@ -85,6 +88,10 @@ def definitions(text):
 
 
 def main():
+    if set(sys.argv[1:]) - {"--look", "--anyway"}:
+        sys.exit(__doc__)
+    if os.path.exists("tools/respelled.tsv"):
+        sys.exit("tools/respelled.tsv is there: the tree is respelled, and a second run would garble it")
     own = [c for c in sorted(os.listdir("crates")) if os.path.isdir(os.path.join("crates", c, "src"))]
     texts = {p: (c, read(p)) for c, p in files("outer")}
     inner = {p: (c, read(p)) for c, p in files("inner")}

@@ -23,7 +23,7 @@ use Rattle.aplic_words.specs.State.{made_of, table_in}
 use Rattle.aplic_words.proofs.States.{made_start}
 use Rattle.capi_room.specs.Room.{status}
 use Rattle.capi_aplic.specs.Wired.{domain_status, room_status, under_status, with_sent}
-use Rattle.capi_aplic_run.specs.Runs.{sent_in, Called, yasmurekh_aplic_wire_lem, yasmurekh_aplic_write_lem, yasmurekh_aplic_read_lem, yasmurekh_aplic_forward_lem, yasmurekh_aplic_claim_lem, yasmurekh_aplic_signal_lem, Calls}
+use Rattle.capi_aplic_run.specs.Runs.{sent_in, Called, yasmurekh_aplic_wire, yasmurekh_aplic_write, yasmurekh_aplic_read, yasmurekh_aplic_forward, yasmurekh_aplic_claim, yasmurekh_aplic_signal, Calls}
 use Rattle.capi_aplic_run.specs.Runs as R
 
 -- a state that is long enough has the status that the call tells
@@ -85,20 +85,20 @@ module _ (out told : List ℕ) (h : ℕ) (t : Table) (room : 1 ≤ length out) w
   signalled-under (suc r) e q = unserved-signal t h (serve_refused t h (suc r) e (λ z. omega (arith, z)))
 
 one : {state left : List ℕ} {c : Call} {a : Answer} → 87 ≤ length state → Called state c a left → (a ≡ answer (table_in state) c) × (table_in left ≡ after (table_in state) c)
-one {state} l (yasmurekh_aplic_wire_lem source level r left told table) =
+one {state} l (yasmurekh_aplic_wire source level r left told table) =
     let e : r ≡ wire_refusal source = told ∙ told_itself state (wire_refusal source) l in
     (ap refusal e, table ∙ wired-under (table_in state) source r (not (eqb level 0)) e)
-one {state} l (yasmurekh_aplic_write_lem offset v r left told table) = (refl, table ∙ done-under r _ _ (told ∙ told_itself state 0 l))
-one {state} l (yasmurekh_aplic_read_lem offset r out told left room e words table) =
+one {state} l (yasmurekh_aplic_write offset v r left told table) = (refl, table ∙ done-under r _ _ (told ∙ told_itself state 0 l))
+one {state} l (yasmurekh_aplic_read offset r out told left room e words table) =
     let z : r ≡ 0 = e ∙ told_itself state (status 1 out) l ∙ has_room 1 out room in
     (ap (λ (k : List ℕ). value (get_or k 0 0)) (words ∙ done-under r _ _ z) ∙ ap value (set_there out _ room), table ∙ done-under r _ _ z)
-one {state} l (yasmurekh_aplic_forward_lem r out told left room e words table) =
+one {state} l (yasmurekh_aplic_forward r out told left room e words table) =
     let z : r ≡ 0 = e ∙ told_itself state (status 4 out) l ∙ has_room 4 out room in
     (ap (λ (k : List ℕ). sent (sent_in k)) (words ∙ done-under r _ _ z) ∙ ap sent (sent-there out _ room), table ∙ done-under r _ _ z)
-one {state} l (yasmurekh_aplic_claim_lem hart r out told left room e words table) =
+one {state} l (yasmurekh_aplic_claim hart r out told left room e words table) =
     let q : r ≡ hart_refusal hart = e ∙ told_itself state (room_status 1 out (hart_refusal hart)) l ∙ in_room out (hart_refusal hart) room in
     (ap₂ (λ (a b : ℕ). took a b) q (took-under out told hart (table_in state) room r q words), table ∙ claimed-under out told hart (table_in state) room r q)
-one {state} l (yasmurekh_aplic_signal_lem hart r out told left room e words same) =
+one {state} l (yasmurekh_aplic_signal hart r out told left room e words same) =
     let q : r ≡ hart_refusal hart = e ∙ told_itself state (room_status 1 out (hart_refusal hart)) l ∙ in_room out (hart_refusal hart) room in
     (ap₂ (λ (a : ℕ) (b : Bool). asserted a b) q (signalled-under out told hart (table_in state) room r q words), ap table_in same)
 

@@ -18,22 +18,22 @@ sent_in out = pick (eqb (get_or out 0 0) 0) Idle (Forwarded (record { hart = get
 
 -- one call on the words `state`, with room enough in `out`: its answer, and the words that it leaves. Each line has the promises of one function
 pub data Called (state : List ℕ) : Call → Answer → List ℕ → Type 0 where
-  yasmurekh_aplic_wire_lem : (source level r : ℕ) (left : List ℕ)
+  yasmurekh_aplic_wire : (source level r : ℕ) (left : List ℕ)
       → r ≡ domain_status state (wire_refusal source) → table_in left ≡ under_status r (table_in state) (wire_table source (not (eqb level 0)) (table_in state))
       → Called state (wire source (not (eqb level 0))) (refusal r) left
-  yasmurekh_aplic_write_lem : (offset v r : ℕ) (left : List ℕ)
+  yasmurekh_aplic_write : (offset v r : ℕ) (left : List ℕ)
       → r ≡ domain_status state 0 → table_in left ≡ under_status r (table_in state) (write_table offset v (table_in state))
       → Called state (write offset v) done left
-  yasmurekh_aplic_read_lem : (offset r : ℕ) (out told left : List ℕ) → 1 ≤ length out
+  yasmurekh_aplic_read : (offset r : ℕ) (out told left : List ℕ) → 1 ≤ length out
       → r ≡ domain_status state (status 1 out) → told ≡ under_status r out (set out 0 (read_table offset (table_in state))) → table_in left ≡ under_status r (table_in state) (after_read offset (table_in state))
       → Called state (read offset) (value (get_or told 0 0)) left
-  yasmurekh_aplic_forward_lem : (r : ℕ) (out told left : List ℕ) → 4 ≤ length out
+  yasmurekh_aplic_forward : (r : ℕ) (out told left : List ℕ) → 4 ≤ length out
       → r ≡ domain_status state (status 4 out) → told ≡ under_status r out (with_sent out (sent_of (table_in state))) → table_in left ≡ under_status r (table_in state) (forward_table (table_in state))
       → Called state forward (sent (sent_in told)) left
-  yasmurekh_aplic_claim_lem : (hart r : ℕ) (out told left : List ℕ) → 1 ≤ length out
+  yasmurekh_aplic_claim : (hart r : ℕ) (out told left : List ℕ) → 1 ≤ length out
       → r ≡ domain_status state (room_status 1 out (hart_refusal hart)) → told ≡ under_status r out (set out 0 (claim_value hart (table_in state))) → table_in left ≡ under_status r (table_in state) (claimed hart (table_in state))
       → Called state (claim hart) (took r (under_status r 0 (get_or told 0 0))) left
-  yasmurekh_aplic_signal_lem : (hart r : ℕ) (out told left : List ℕ) → 1 ≤ length out
+  yasmurekh_aplic_signal : (hart r : ℕ) (out told left : List ℕ) → 1 ≤ length out
       → r ≡ domain_status state (room_status 1 out (hart_refusal hart)) → told ≡ under_status r out (set out 0 (digit (signalled hart (table_in state)))) → left ≡ state
       → Called state (signal hart) (asserted r (under_status r false (not (eqb (get_or told 0 0) 0)))) left
 

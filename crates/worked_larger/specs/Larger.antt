@@ -98,8 +98,8 @@ translated a = 0 ∷ a ∷ 0 ∷ 0 ∷ []
 abbrev first-fault : List ℕ
 first-fault = 4 ∷ 13 ∷ 0 ∷ 0 ∷ 2 ∷ []
 
-abbrev guest_fault_lem : List ℕ
-guest_fault_lem = 4 ∷ 21 ∷ 0 ∷ 0 ∷ 3 ∷ []
+abbrev guest_fault : List ℕ
+guest_fault = 4 ∷ 21 ∷ 0 ∷ 0 ∷ 3 ∷ []
 
 -- an address that the first stage's root entry 255 leads to guest address g, under each second stage
 abbrev pairs : ℕ → ℕ → ℕ → List ℕ
@@ -136,12 +136,12 @@ larger =  -- "2^38 and 2^41 there bind only the old schemes": each scheme has it
     ∷ row 22 (read_at 2 0 (2 ^ 47 - 1) ++ read_at 2 0 (2 ^ 47)) (translated (2 ^ 39 - 1) ++ first-fault)
     ∷ row 23 (read_at 3 0 (2 ^ 56 - 1) ++ read_at 3 0 (2 ^ 56)) (translated (2 ^ 48 - 1) ++ first-fault)
     ∷ row 24 (read_at 3 0 (2 ^ 64 - 2 ^ 56 - 1) ++ read_at 3 0 (2 ^ 64 - 2 ^ 56)) (first-fault ++ translated 0)
-    ∷ row 25 (read_at 0 1 (2 ^ 41 - 1) ++ read_at 0 1 (2 ^ 41)) (translated (2 ^ 30 - 1) ++ guest_fault_lem)
-    ∷ row 26 (read_at 0 2 (2 ^ 50 - 1) ++ read_at 0 2 (2 ^ 50)) (translated (2 ^ 39 - 1) ++ guest_fault_lem)
-    ∷ row 27 (read_at 0 3 (2 ^ 59 - 1) ++ read_at 0 3 (2 ^ 59)) (translated (2 ^ 48 - 1) ++ guest_fault_lem)
+    ∷ row 25 (read_at 0 1 (2 ^ 41 - 1) ++ read_at 0 1 (2 ^ 41)) (translated (2 ^ 30 - 1) ++ guest_fault)
+    ∷ row 26 (read_at 0 2 (2 ^ 50 - 1) ++ read_at 0 2 (2 ^ 50)) (translated (2 ^ 39 - 1) ++ guest_fault)
+    ∷ row 27 (read_at 0 3 (2 ^ 59 - 1) ++ read_at 0 3 (2 ^ 59)) (translated (2 ^ 48 - 1) ++ guest_fault)
     -- each pair of schemes; under both, the guest address has the second's limit
     ∷ row 28 (pairs 1 30 0x1234) (translated 0x1234 ++ (translated 0x1234 ++ translated 0x1234))
     ∷ row 29 (pairs 2 39 0x1234) (translated 0x1234 ++ (translated 0x1234 ++ translated 0x1234))
     ∷ row 30 (pairs 3 48 0x1234) (translated 0x1234 ++ (translated 0x1234 ++ translated 0x1234))
-    ∷ row 31 (pairs 3 48 (2 ^ 47 + 0x1234)) (guest_fault_lem ++ (translated 0x1234 ++ translated (2 ^ 47 + 0x1234)))
+    ∷ row 31 (pairs 3 48 (2 ^ 47 + 0x1234)) (guest_fault ++ (translated 0x1234 ++ translated (2 ^ 47 + 0x1234)))
     ∷ []
