@@ -18,7 +18,6 @@ import re
 import subprocess
 import sys
 
-KIT = "/opt/rattle/rattle"
 NAME = re.compile(r"[^\s(){}.,;\"`«»|]+")
 DEFINITION = re.compile(r"^( *)(?:(?:unfoldable|abbrev|pub|data|record|ruleset) +)*([^\s:(){}.,=`\"|]+) *(?::|=|\()", re.M)
 CAMEL = re.compile(r"^[a-z][A-Za-z0-9']*[a-z0-9][A-Z][A-Za-z0-9']*$")
