@@ -8,12 +8,14 @@ use borrow.Author.Tests.{eq-eqb, ne_eqb}
 use lib.ListN.{set, length, replicate, length-map}
 use Rattle.memory.proofs.Choices.{yes-is, no-is}
 use Rattle.hart.specs.declared.Hart.{Hart}
-use Rattle.hart.specs.Hart.{unforced, hart_refusal}
+use Rattle.word.specs.Word.{digit}
+use Rattle.hart.specs.Hart.{unforced}
 use Rattle.source.specs.declared.Delivery.{Delivery}
+use Rattle.source.specs.declared.Delivery.TheVariants.{Direct, Message}
 use Rattle.source.specs.Source.{direct_of}
 use Rattle.source.specs.Table.{start_of}
 use Rattle.aplic_calls.specs.Direct.{serves, topi, claim_hart}
-use Rattle.aplic_calls.proofs.Claims.{serve_refused, unserved-topi, unserved-table, unserved-hart, unserved-claim, unserved-value, unserved-signal}
+use Rattle.aplic_calls.proofs.Claims.{serve-err, unserved-topi, unserved-table, unserved-hart, unserved-claim, unserved-value, unserved-signal}
 use Rattle.aplic_words.specs.State.{delivery_in, table_in, mode_word, made_of}
 use Rattle.aplic_words.proofs.States.{served, unserved, made_start}
 use Rattle.aplic.specs.declared.Domain.{Domain}
@@ -22,9 +24,13 @@ use Rattle.aplic.specs.Domain.{table_of}
 pub long : {X Y : Type 0} (f : X → Y) (l : List X) → length (map f l) ≡ 87 → 87 ≤ length l
 long f l e = omega (arith, sym (length-map l f) ∙ e)
 
-pub born : (d : Delivery) (m : ℕ) → m ≡ mode_word d → table_of (record { words = set (replicate 87 0) 7 m }) ≡ start_of d
+pub born : (d : Delivery) (b : Bool) (m : ℕ) → b ≡ direct_of d → m ≡ digit b → table_of (record { words = set (replicate 87 0) 7 m }) ≡ start_of d
 unfolding table_of made_of
-born d m e = ap (λ (w : ℕ). table_in (set (replicate 87 0) 7 w)) e ∙ made_start d 87 (omega arith)
+born d b m h e = ap (λ (w : ℕ). table_in (set (replicate 87 0) 7 w)) (e ∙ ap digit h ∙ go d) ∙ made_start d 87 (omega arith)
+  where
+    go : (d : Delivery) → digit (direct_of d) ≡ mode_word d
+    go Direct = refl
+    go Message = refl
 
 -- ---- the record of a hart after its claim
 module _ (d : Domain) (h : ℕ) (x : Hart) (v : ℕ) (below : h < 16) (hv : v ≡ topi h x.threshold (table_of d)) (m : Delivery) (hm : m ≡ delivery_in d.words) (b : Bool) (hb : b ≡ direct_of m) where
@@ -47,8 +53,5 @@ module _ (d : Domain) (h : ℕ) (x : Hart) (v : ℕ) (below : h < 16) (hv : v �
 
 pub ruleset after = (after_none, after-some, after-message)
 
--- ---- a hart that is refused, or not
-pub fine : (h r : ℕ) → r ≡ hart_refusal h → r ≡ 0 → 0 ≡ hart_refusal h
-fine h r e z = sym z ∙ e
-
-pub ruleset refused = (serve_refused, unserved-topi, unserved-table, unserved-hart, unserved-claim, unserved-value, unserved-signal)
+-- ---- what is told of a hart's number
+pub ruleset refused = (serve-err, unserved-topi, unserved-table, unserved-hart, unserved-claim, unserved-value, unserved-signal)

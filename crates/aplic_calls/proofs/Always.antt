@@ -27,7 +27,9 @@ use Rattle.source.specs.Source.{mode_of, active_of, rectified, Event, input, set
 use Rattle.source.specs.Table.{Table, start_of, act}
 use Rattle.aplic_calls.specs.Direct.{serves, with_hart, topi, claim_table, claim_hart, claimed, write_hart, write_idc, claimed_by}
 use Rattle.aplic_calls.specs.Calls.{wire_table, concerned, change, enabled_by, write_register, write_table, after_read, forward_table, sends, top_of}
-use Rattle.aplic_calls.specs.Run.{Call, wire, write, read, forward, claim, signal, after, after_all}
+use Rattle.aplic_calls.specs.declared.Call.{Call}
+use Rattle.aplic_calls.specs.declared.Call.TheVariants.{Wire, Write, Read, Forward, Claim, Signal}
+use Rattle.aplic_calls.specs.Run.{after, after_all}
 use Rattle.aplic_calls.specs.Always.{LevelSound, PrioritySound, SoundAs, Sound}
 
 abbrev Fine : Delivery → Source → Type 0
@@ -220,12 +222,12 @@ read_kept Reserved t h = h
 
 kept : (t : Table) (c : Call) → Sound t → Sound (after t c)
 unfolding wire_table write_table after_read forward_table
-kept t (wire n level) h = acts (only n) (sensed t.delivery level) t (λ s k. sensed-at t.delivery level s.mode s.wire s.pending s.enable s.target k) h
-kept t (write o v) h = by_span (ltb o 0x4000) _ _ (written (register_of o) v t h) (idc_written (idc_of o) v t h)
-kept t (read o) h = read_kept (idc_of o) t h
-kept t (claim n) h = claim-kept n t h
-kept t (signal n) h = h
-kept t forward h = go (sends t)
+kept t (Wire n level) h = acts (only n) (sensed t.delivery level) t (λ s k. sensed-at t.delivery level s.mode s.wire s.pending s.enable s.target k) h
+kept t (Write o v) h = by_span (ltb o 0x4000) _ _ (written (register_of o) v t h) (idc_written (idc_of o) v t h)
+kept t (Read o) h = read_kept (idc_of o) t h
+kept t (Claim n) h = claim-kept n t h
+kept t (Signal n) h = h
+kept t Forward h = go (sends t)
   where
     go : (b : Bool) → Sound (pick b (act (only (top_of t)) (handed t.delivery) t) t)
     go true = acts (only (top_of t)) (handed t.delivery) t (λ s k. handed-at t.delivery s k) h
@@ -270,12 +272,12 @@ read-mode Reserved t = refl
 
 call_mode : (t : Table) (c : Call) → (after t c).delivery ≡ t.delivery
 unfolding wire_table write_table after_read forward_table
-call_mode t (wire n level) = refl
-call_mode t (write o v) = span-mode (ltb o 0x4000) _ _ _ (register_mode (register_of o) v t) (idc_mode (idc_of o) v t)
-call_mode t (read o) = read-mode (idc_of o) t
-call_mode t forward = span-mode (sends t) _ _ _ refl refl
-call_mode t (claim n) = claim-mode n t
-call_mode t (signal n) = refl
+call_mode t (Wire n level) = refl
+call_mode t (Write o v) = span-mode (ltb o 0x4000) _ _ _ (register_mode (register_of o) v t) (idc_mode (idc_of o) v t)
+call_mode t (Read o) = read-mode (idc_of o) t
+call_mode t Forward = span-mode (sends t) _ _ _ refl refl
+call_mode t (Claim n) = claim-mode n t
+call_mode t (Signal n) = refl
 
 pub mode_fixed : (t : Table) (cs : List Call) → (after_all t cs).delivery ≡ t.delivery
 mode_fixed t [] = refl

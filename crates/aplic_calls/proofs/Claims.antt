@@ -4,7 +4,7 @@ use mathlib.Core.Bool.{Bool, true, false, not, ◌&&◌, ◌||◌}
 use Prim.Native.Nat.{ℕ, ◌<◌, ◌/◌, ◌%◌}
 use native.Mathlib.Decide.{dec_lt}
 use native.Mathlib.Omega.{arith}
-use borrow.Author.Tests.{eq-eqb, ne_eqb, eqb-true, lt-ltb, le-ltb}
+use borrow.Author.Tests.{eq-eqb, ne_eqb, eqb-true, lt-ltb, le-ltb, ltb-true}
 use lib.Dec.{eqb, ltb}
 use Rattle.memory.specs.Choice.{pick}
 use Rattle.memory.proofs.Choices.{yes-is, no-is}
@@ -15,7 +15,10 @@ use Rattle.register.specs.declared.Idc.{Idc}
 use Rattle.register.specs.declared.Idc.TheVariants.{OfHart, ClaimI, Reserved}
 use Rattle.register.specs.Register.{idc_of}
 use Rattle.hart.specs.declared.Hart.{Hart}
-use Rattle.hart.specs.Hart.{wrote_of, unforced, hart_refusal}
+use Rattle.std.specs.Prelude.{Result, Ok, Err}
+use Rattle.refusal.specs.declared.Refusal.{Refusal}
+use Rattle.hart.specs.Hart.{wrote_of, unforced, hart_refusal, in_domain}
+use Rattle.hart.proofs.Refusals.{has-it, has-not}
 use Rattle.source.specs.Source.{direct_of, handed}
 use Rattle.source.specs.Table.{Table, act}
 use Rattle.aplic_calls.specs.Direct.{serves, with_hart, top_at, topi, claim_table, claim_hart, claimed, claim_value, write_hart, read_hart, write_idc, read_idc, claimed_by, signalled, tells}
@@ -27,6 +30,9 @@ below_of h r e z = go (dec_lt h 16)
     go : Dec (h < 16) → h < 16
     go (yes p) = p
     go (no p) = absurd (omega (arith, sym z ∙ e ∙ ap (λ (b : Bool). pick b 0 2014) (le-ltb h 16 (omega arith))))
+
+pub below_ok : (h : ℕ) (r : Result Unit Refusal) (u : Unit) → r ≡ in_domain (ltb h 16) tt → r ≡ Ok u → h < 16
+below_ok h r u e k = ltb-true h 16 (has-it (ltb h 16) tt r u e k)
 
 -- a record put in its own place
 pub with_own : (t : Table) (h : ℕ) → with_hart h (t.hart h) t ≡ t
@@ -58,6 +64,14 @@ module _ (t : Table) (h : ℕ) where
       go : (b : Bool) → r ≡ pick b 0 2014 → b && direct_of t.delivery ≡ false
       go true p = absurd (z p)
       go false p = refl
+
+  pub serve_past : ltb h 16 ≡ false → serves h t ≡ false
+  unfolding serves
+  serve_past e = rw e
+
+  pub serve-err : (r : Result Unit Refusal) (e : Refusal) → r ≡ in_domain (ltb h 16) tt → r ≡ Err e → serves h t ≡ false
+  unfolding serves
+  serve-err r e p q = rw (has-not (ltb h 16) tt r e p q)
 
   -- ---- a hart that isn't served
   module _ (no : serves h t ≡ false) where

@@ -3,7 +3,8 @@ use mathlib.Core.List.{List, ◌∷◌}
 use mathlib.Core.Path.{◌≡◌, refl, ap, ap₂, ◌∙◌}
 use Rattle.source.specs.declared.Delivery.{Delivery}
 use Rattle.source.specs.Table.{Table, start_of}
-use Rattle.aplic_calls.specs.Run.{Call, Answer, answers, after_all, Ran, end, next}
+use Rattle.aplic_calls.specs.declared.Call.{Call}
+use Rattle.aplic_calls.specs.Run.{Answer, answers, after_all, Ran, end, next}
 
 module _ {S : Type 0} {table : S → Table} where
   follows : {s z : S} {cs : List Call} {xs : List Answer} → Ran table s cs xs z → (xs ≡ answers (table s) cs) × (table z ≡ after_all (table s) cs)

@@ -24,7 +24,10 @@ use Rattle.source.specs.Table.{Table, quiet, act}
 use Rattle.sources.specs.declared.Sources.{Sources}
 use Rattle.sources.specs.Sources.{source_of, Common, table_with, Acts, Inputs, lined, first_waiting}
 use Rattle.aplic_calls.specs.declared.Msi.{Msi}
-use Rattle.aplic_calls.specs.declared.Sent.TheVariants.{Idle, Forwarded}
+use Rattle.std.specs.Prelude.{Some, None, Result, Err}
+use Rattle.refusal.specs.declared.Refusal.{Refusal}
+use Rattle.hart.specs.Hart.{in_domain}
+use Rattle.hart.proofs.Refusals.{has-not}
 use Rattle.aplic_calls.specs.Direct.{write_idc, read_idc, claimed_by}
 use Rattle.aplic_calls.specs.Calls.{concerned, change, write_register, write_table, read_bits, read_register, read_table, after_read, waiting, top_of, forwards, sends, forward_table, sent_of, msi_of, wire_table, wire_refusal}
 use Rattle.aplic_calls.specs.Code.{Shows}
@@ -252,12 +255,16 @@ pub unwired_table : (t : Table) (n r : ℕ) (level : Bool) → r ≡ wire_refusa
 unfolding wire_table
 unwired_table t n r level e z = outside n (sensed t.delivery level) t (refused-outside n r e z)
 
+pub unwired-err : (t : Table) (n : ℕ) (level : Bool) (r : Result Unit Refusal) (e : Refusal) → r ≡ in_domain (is_source n) tt → r ≡ Err e → t ≡ wire_table n level t
+unfolding wire_table
+unwired-err t n level r e h k = outside n (sensed t.delivery level) t (has-not (is_source n) tt r e h k)
+
 -- a forward with nothing to send
 pub kept_table : (t : Table) → sends t ≡ false → t ≡ forward_table t
 unfolding forward_table
 kept_table t e = no-is _ _ _ _ e refl
 
-pub kept-sent : (t : Table) → sends t ≡ false → Idle ≡ sent_of t
+pub kept-sent : (t : Table) → sends t ≡ false → None ≡ sent_of t
 unfolding sent_of
 kept-sent t e = no-is _ _ _ _ e refl
 
@@ -331,8 +338,8 @@ module _ (co : Common) (s : Sources) (targets : ℕ → ℕ) where
           ∙ ap (λ (f : Source → Source). act (only n) f (table_with co s targets)) (handed-is co.delivery)
           ∙ ap (λ (k : ℕ). act (only k) (handed co.delivery) (table_with co s targets)) (hn ∙ top-is))
 
-      pub forwarded_sent : (m : Msi) → m ≡ msi_of (targets n) → Forwarded m ≡ sent_of (table_with co s targets)
+      pub forwarded_sent : (m : Msi) → m ≡ msi_of (targets n) → Some m ≡ sent_of (table_with co s targets)
       unfolding sent_of source_of
       forwarded_sent m hm =
           yes-is _ _ _ _ sending
-          (ap Forwarded (hm ∙ ap (λ (x : Source). msi_of x.target) (row_at co s s targets n first-from l) ∙ ap (λ (k : ℕ). msi_of ((table_with co s targets).row k).target) (hn ∙ top-is)))
+          (ap Some (hm ∙ ap (λ (x : Source). msi_of x.target) (row_at co s s targets n first-from l) ∙ ap (λ (k : ℕ). msi_of ((table_with co s targets).row k).target) (hn ∙ top-is)))

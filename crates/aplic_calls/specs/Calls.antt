@@ -1,5 +1,5 @@
 -- What each call does to the table of separate sources and harts, and what it answers.
-use Rattle.std.specs.Prelude.{ℕ, ◌+◌, ◌*◌, ◌^◌, Bool, true, false, ◌&&◌, ltb}
+use Rattle.std.specs.Prelude.{ℕ, ◌+◌, ◌*◌, ◌^◌, Bool, true, false, ◌&&◌, ltb, Option, Some, None}
 use Rattle.memory.specs.Bits.{bit, bits}
 use Rattle.memory.specs.Choice.{pick}
 use Rattle.word.specs.Word.{is_source, half, chosen, only, digit, lowest}
@@ -15,8 +15,6 @@ use Rattle.source.specs.Source.{number_of, input_of, sensed, raised, lowered, ha
 use Rattle.source.specs.Table.{Table, act}
 use Rattle.aplic_calls.specs.Direct.{write_idc, ignores_idc, read_idc, claimed_by}
 use Rattle.aplic_calls.specs.declared.Msi.{Msi}
-use Rattle.aplic_calls.specs.declared.Sent.{Sent}
-use Rattle.aplic_calls.specs.declared.Sent.TheVariants.{Forwarded, Idle}
 
 -- ---- a wire
 unfoldable pub wire_table : ℕ → Bool → Table → Table
@@ -134,5 +132,5 @@ msi_of v = record { hart = bits v 31 18; guest = bits v 17 12; identity = bits v
 unfoldable pub forward_table : Table → Table
 forward_table t = pick (sends t) (act (only (top_of t)) (handed t.delivery) t) t
 
-unfoldable pub sent_of : Table → Sent
-sent_of t = pick (sends t) (Forwarded (msi_of (t.row (top_of t)).target)) Idle
+unfoldable pub sent_of : Table → Option Msi
+sent_of t = pick (sends t) (Some (msi_of (t.row (top_of t)).target)) None

@@ -2,30 +2,52 @@
 #![tactic(auto)]
 
 ghost use Rattle.std.specs.Prelude.{◌≡◌, ◌<◌};
+ghost use Rattle.word.specs.Word.{is_source};
+ghost use Rattle.hart.specs.Hart.{in_domain};
 ghost use Rattle.source.specs.Source.{number_of};
 ghost use Rattle.sources.specs.Sources.{source_of, Acts};
-ghost use Rattle.aplic_calls.specs.Calls.{wire_refusal, concerned, change, domain_word, msi_of};
+ghost use Rattle.aplic_calls.specs.Calls.{concerned, change, domain_word, msi_of};
 ghost use Rattle.aplic_calls.specs.Code.{Shows};
 
+use refusal::Refusal;
 use register::BitRegister;
 use source::Delivery;
 use sources::Sources;
 
 // What is sent for a source: the identity, to a hart's interrupt file or to that of a guest there.
-#[derive(Clone, Copy)]
+#[derive(Clone, Copy, Debug, PartialEq, Eq)]
 pub struct Msi {
     pub hart: u32,
     pub guest: u32,
     pub identity: u32,
 }
 
-#[derive(Clone, Copy)]
-pub enum Sent {
-    Idle,
-    Forwarded(Msi),
+// A target's fields.
+impl From<u32> for Msi {
+    ghost from_gives = { λ target m. m ≡ msi_of target };
+
+    fn from(target: u32) -> Msi {
+        Msi {
+            hart: target / 0x4_0000 % 0x4000,
+            guest: target / 0x1000 % 64,
+            identity: target % 2048,
+        }
+    }
+}
+
+// A call of a domain: a wire takes a level, a register is written or read by its offset, a source is forwarded, a hart claims, or is asked for its signal.
+#[derive(Clone, Copy, Debug, PartialEq, Eq)]
+pub enum Call {
+    Wire(u64, bool),
+    Write(u64, u32),
+    Read(u64),
+    Forward,
+    Claim(u64),
+    Signal(u64),
 }
 
 // A write to a register of bits.
+#[tactic(auto, using(crate::proofs::Tables::bit_arms))]
 pub fn write_bits(s: Sources, d: Delivery, b: BitRegister, v: u32) -> Sources
     ensures { Acts (concerned b v) (change d b) s result }
 {
@@ -41,6 +63,7 @@ pub fn write_bits(s: Sources, d: Delivery, b: BitRegister, v: u32) -> Sources
     }
 }
 
+#[tactic(auto, using(crate::proofs::Tables::shows))]
 pub fn read_bits(s: Sources, b: BitRegister) -> u32
     ensures { Shows b s result }
 {
@@ -60,27 +83,11 @@ pub fn read_bits(s: Sources, b: BitRegister) -> u32
 pub fn domain_word(enable: bool, d: Delivery) -> u32
     ensures { result ≡ domain_word enable d }
 {
-    let direct = source::is_direct(d);
-    if enable {
-        if direct {
-            return 0x8000_0100;
-        }
-        return 0x8000_0104;
-    }
-    if direct {
-        return 0x8000_0000;
-    }
-    0x8000_0004
-}
-
-// A target's fields.
-pub fn msi_of(target: u32) -> Msi
-    ensures { result ≡ msi_of target }
-{
-    Msi {
-        hart: target / 0x4_0000 % 0x4000,
-        guest: target / 0x1000 % 64,
-        identity: target % 2048,
+    match (enable, d) {
+        (true, Delivery::Direct) => 0x8000_0100,
+        (true, Delivery::Message) => 0x8000_0104,
+        (false, Delivery::Direct) => 0x8000_0000,
+        (false, Delivery::Message) => 0x8000_0004,
     }
 }
 
@@ -89,18 +96,12 @@ pub fn mode_number(s: Sources, n: u64) -> u32
     requires { n < 64 }
     ensures { result ≡ number_of (source_of s n 0).mode }
 {
-    let m = s.row(n, 0).mode;
-    source::number(m)
+    u32::from(s.row(n, 0).mode)
 }
 
-pub fn wire_refusal(n: u64) -> u64
-    ensures { result ≡ wire_refusal n }
+// Wires are those of the sources 1 to 63.
+pub fn wire_refusal(n: u64) -> Result<(), Refusal>
+    ensures { result ≡ in_domain (is_source n) tt }
 {
-    if n == 0 {
-        return 2014;
-    }
-    if n > 63 {
-        return 2014;
-    }
-    0
+    hart::in_domain(0 < n && n < 64)
 }

@@ -1,11 +1,13 @@
 -- What a hart's registers, claims and signal make of the table that the words stand for, and tell of it. Assumes nothing.
-use mathlib.Core.Path.{◌≡◌, refl, sym, ap, ◌∙◌}
+use mathlib.Core.Path.{◌≡◌, refl, sym, ap, ◌∙◌, subst}
 use mathlib.Core.Bool.{Bool, true, false, not, ◌&&◌}
 use mathlib.Core.List.{List}
 use Prim.Native.Nat.{ℕ, ◌+◌, ◌-◌, ◌*◌, ◌/◌, ◌%◌, ◌<◌, ◌≤◌}
 use native.Mathlib.Omega.{arith}
 use borrow.Author.Tests.{not-true, not-false}
 use lib.Bits.{bit_and}
+use Rattle.std.specs.Prelude.{Some, None}
+use Rattle.aplic_hart.specs.Takes.{Takes}
 use lib.Dec.{eqb}
 use lib.ListN.{get_or, set, drop, length}
 use Rattle.memory.specs.Bits.{bits}
@@ -25,7 +27,7 @@ use Rattle.sources.specs.declared.Sources.{Sources}
 use Rattle.sources.specs.Sources.{Acts}
 use Rattle.aplic_calls.specs.Direct.{with_hart, top_at, topi, claim_table, claim_hart, claimed, claim_value, read_hart, signalled}
 use Rattle.aplic_calls.proofs.Tables.{acts_ext, handed-is}
-use Rattle.aplic_calls.proofs.Tops.{Looked, looked_first, looked_next, looked_some, looked_less, looked_done}
+use Rattle.aplic_calls.proofs.Tops.{Looked, looked_first, looked_next, looked_done}
 use Rattle.aplic_calls.proofs.Claims.{with_own, unserved-topi, unserved-table, unserved-claim, unserved-value, unserved-read, unserved-signal}
 use Rattle.aplic_calls.proofs.Claims.{top-served, nothing-table, nothing-hart, taken-hart, taken-table, claimed_by_lem, tells-delivery, tells-force, tells-threshold, tells-top, table_forced, table-top, table-off}
 use Rattle.aplic_words.specs.State.{enable_in, sources_in, delivery_in, target_in, record_in, common_in, table_in, with_sources}
@@ -59,15 +61,18 @@ module _ (ws : List ℕ) where
         → Looked (common_in ws) (sources_in ws) (target_in ws) h th left' r n
     top-next r n t left' l ht hr = looked_next (common_in ws) (sources_in ws) (target_in ws) h th left best i p l r n left' (hr ∙ ap (λ (x : ℕ). better_of h i x best) ht)
 
-    pub top-some : i < 64 → 0 < left
-    top-some l = looked_some (common_in ws) (sources_in ws) (target_in ws) h th left best i p l
-
-    pub top_less : (left' : ℕ) → i < 64 → left' ≡ bit_and left (left - 1) → left' < left
-    top_less left' l = looked_less (common_in ws) (sources_in ws) (target_in ws) h th left best i p l left'
-
     pub top-done : (r : ℕ) → 64 ≤ i → r ≡ top_word best → r ≡ top_at h th (table_in ws)
     unfolding table_in
     top-done r l = looked_done (common_in ws) (sources_in ws) (target_in ws) h th left best i p l r
+
+  module _ (h th left best : ℕ) (p : Looked (common_in ws) (sources_in ws) (target_in ws) h th left best (lowest 63 1 (contains left))) where
+    pub top-taken : (i r t rest : ℕ) → Takes left (Some i) rest → t ≡ target_in ws i → r ≡ better_of h i t best → Looked (common_in ws) (sources_in ws) (target_in ws) h th rest r (lowest 63 1 (contains rest))
+    top-taken i r t rest k ht hr =
+        let q : Looked (common_in ws) (sources_in ws) (target_in ws) h th left best i = subst (λ (x : ℕ). Looked (common_in ws) (sources_in ws) (target_in ws) h th left best x) (sym k.0) p in
+        top-next h th left best i q r (lowest 63 1 (contains rest)) t rest k.1 ht hr k.2 refl
+
+    pub top-ended : (r rest : ℕ) → Takes left None rest → r ≡ top_word best → r ≡ top_at h th (table_in ws)
+    top-ended r rest k e = top-done h th left best (lowest 63 1 (contains left)) p r k e
 
   module _ (d : Delivery) (hd : d ≡ delivery_in ws) (b : Bool) (hb : b ≡ direct_of d) where
     module _ (h : ℕ) (below : h < 16) where
@@ -167,14 +172,12 @@ module _ (ws : List ℕ) where
               go true p q = table-off (table_in ws) h (served ws d hd b hb h below p) x own (sym on-there ∙ q)
               go false p q = unserved-signal (table_in ws) h (unserved ws d hd b hb h below p)
 
-pub ruleset tops = (top-first, top-next, top-some, top_less, top-done)
-
-pub ruleset hart-reads = (not-true, not-false, hart-silent, hart-delivery, hart-force, hart-threshold, hart-top)
+pub ruleset hart_reads = (not-true, not-false, hart-silent, hart-delivery, hart-force, hart-threshold, hart-top)
 
 pub ruleset takes = (take-silent, take_ignored, take-value, take_none, take-goes)
 
 pub ruleset claim_values = (claim-silent, claim_value_lem)
 
-pub ruleset claim-tables = (claim_ignored, claim-none, claim-took)
+pub ruleset claim_tables = (claim_ignored, claim-none, claim-took)
 
 pub ruleset signals = (signal_forced, signal-top, signal-off)

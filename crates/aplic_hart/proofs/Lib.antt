@@ -1,1 +1,2 @@
 mod Harts
+mod Left

@@ -10,7 +10,8 @@ use Rattle.source.specs.declared.Delivery.{Delivery}
 use Rattle.source.specs.Table.{Table, start_of}
 use Rattle.aplic.specs.declared.Domain.{Domain}
 use Rattle.aplic.specs.Domain.{table_of}
-use Rattle.aplic_calls.specs.Run.{Call, Answer, after, answer, answers, after_all}
+use Rattle.aplic_calls.specs.declared.Call.{Call}
+use Rattle.aplic_calls.specs.Run.{Answer, after, answer, answers, after_all}
 use Rattle.aplic_run.specs.declared.Reply.{Reply}
 use Rattle.aplic_run.specs.Words.{call_of, calls_of, reply_of, words_of, runnable, answered, with_reply}
 
@@ -132,14 +133,14 @@ module _ (start : Table) (calls before : List ℕ) (end : ℕ) {n : ℕ} {d : Do
         ∙ ap₂ (λ (s : Reply) (k : ℕ). (w ++ (s.kind ∷ s.first ∷ s.second ∷ s.third ∷ [])) ++ drop k before) h f
         ∙ ap (λ (o : List ℕ). o ++ drop (4 * (n + 1)) before) (sym answers-then)
 
-  pub one_more : (e : Domain) (r : Reply) (o : List ℕ) → n < end
-      → table_of e ≡ after (table_of d) (call_of (get_or calls (3 * n) 0) (get_or calls (3 * n + 1) 0) (get_or calls (3 * n + 2) 0))
-      → r ≡ reply_of (answer (table_of d) (call_of (get_or calls (3 * n) 0) (get_or calls (3 * n + 1) 0) (get_or calls (3 * n + 2) 0)))
+  pub one_more : (c : Call) (e : Domain) (r : Reply) (o : List ℕ) → n < end
+      → c ≡ call_of (get_or calls (3 * n) 0) (get_or calls (3 * n + 1) 0) (get_or calls (3 * n + 2) 0)
+      → table_of e ≡ after (table_of d) c
+      → r ≡ reply_of (answer (table_of d) c)
       → o ≡ with_reply out (4 * n) r
       → Replayed start calls before end (n + 1) e o
-  one_more e r o l he hr ho =
-      let c = call_of (get_or calls (3 * n) 0) (get_or calls (3 * n + 1) 0) (get_or calls (3 * n + 2) 0) in
-      let more : calls_of calls (n + 1) ≡ calls_of calls n ++ (c ∷ []) = rw (add-one n) (calls_more calls n _ _ _ (omega (arith, p.whole)) refl refl refl) in
+  one_more c e r o l hc he hr ho =
+      let more : calls_of calls (n + 1) ≡ calls_of calls n ++ (c ∷ []) = rw (add-one n, hc) (calls_more calls n _ _ _ (omega (arith, p.whole)) refl refl refl) in
       record {
         turns = omega arith;
         whole = p.whole;
@@ -149,8 +150,8 @@ module _ (start : Table) (calls before : List ℕ) (end : ℕ) {n : ℕ} {d : Do
         words = ho ∙ words-then c more l r hr;
       }
 
-  pub all-run : (d : Delivery) → start ≡ start_of d → end ≡ min (length calls / 3) (length before / 4) → end ≤ n → (n ≡ runnable calls before) × (out ≡ answered d calls before (runnable calls before))
+  pub all-run : (d : Delivery) → start ≡ start_of d → end ≡ min (length calls / 3) (length before / 4) → end ≤ n → (end ≡ runnable calls before) × (out ≡ answered d calls before (runnable calls before))
   unfolding runnable
   all-run d q e l =
       let z : n ≡ min (length calls / 3) (length before / 4) = omega (arith, p.turns) in
-      (z, p.words ∙ ap₂ (λ (t : Table) (k : ℕ). answered_from t calls before k) q z ∙ from_start d calls before (min (length calls / 3) (length before / 4)))
+      (e, p.words ∙ ap₂ (λ (t : Table) (k : ℕ). answered_from t calls before k) q z ∙ from_start d calls before (min (length calls / 3) (length before / 4)))

@@ -1,20 +1,23 @@
 -- Calls and answers as words, and what a run of calls leaves in a buffer.
-use Rattle.std.specs.Prelude.{ℕ, zero, suc, ◌+◌, ◌*◌, ◌/◌, ◌%◌, ◌^◌, min, not, List, [], ◌∷◌, ◌++◌, eqb, length, drop, set}
+use Rattle.std.specs.Prelude.{ℕ, Bool, Some, None, Result, Ok, Err, zero, suc, ◌+◌, ◌*◌, ◌/◌, ◌%◌, ◌^◌, min, not, List, [], ◌∷◌, ◌++◌, eqb, length, drop, set}
 use Rattle.memory.specs.Choice.{pick}
 use Rattle.word.specs.Word.{digit}
 use Rattle.source.specs.declared.Delivery.{Delivery}
 use Rattle.source.specs.Table.{start_of}
-use Rattle.aplic_calls.specs.declared.Sent.TheVariants.{Forwarded, Idle}
-use Rattle.aplic_calls.specs.Run.{Call, wire, write, read, forward, claim, signal, Answer, refusal, done, value, sent, took, asserted, answers}
+use Rattle.refusal.specs.declared.Refusal.{Refusal}
+use Rattle.refusal.specs.Refusal.{number_of}
+use Rattle.aplic_calls.specs.declared.Call.{Call}
+use Rattle.aplic_calls.specs.declared.Call.TheVariants.{Wire, Write, Read, Forward, Claim, Signal}
+use Rattle.aplic_calls.specs.Run.{Answer, refusal, done, value, sent, took, asserted, answers}
 use Rattle.aplic_run.specs.declared.Reply.{Reply}
 
 -- a call is three words: its kind, a and b. 0: wire a takes the level b, high unless b is 0; 1: b's low 32 bits are written at offset a; 2: offset a is read;
 -- 4: hart a claims; 5: whether hart a is signalled; any other: forward
 unfoldable pub late_call : ℕ → ℕ → Call
-late_call kind a = pick (eqb kind 4) (claim a) (pick (eqb kind 5) (signal a) forward)
+late_call kind a = pick (eqb kind 4) (Claim a) (pick (eqb kind 5) (Signal a) Forward)
 
 unfoldable pub call_of : ℕ → ℕ → ℕ → Call
-call_of kind a b = pick (eqb kind 0) (wire a (not (eqb b 0))) (pick (eqb kind 1) (write a (b % 2 ^ 32)) (pick (eqb kind 2) (read a) (late_call kind a)))
+call_of kind a b = pick (eqb kind 0) (Wire a (not (eqb b 0))) (pick (eqb kind 1) (Write a (b % 2 ^ 32)) (pick (eqb kind 2) (Read a) (late_call kind a)))
 
 -- the first n calls of a list of words; words that make no whole call are none
 abbrev pub calls_of : List ℕ → ℕ → List Call
@@ -37,8 +40,8 @@ abbrev pub reply_of : Answer → Reply
 reply_of (refusal n) = short 0 n
 reply_of done = short 1 0
 reply_of (value v) = short 2 v
-reply_of (sent Idle) = short 3 0
-reply_of (sent (Forwarded m)) = record { kind = 4; first = m.hart; second = m.guest; third = m.identity }
+reply_of (sent None) = short 3 0
+reply_of (sent (Some m)) = record { kind = 4; first = m.hart; second = m.guest; third = m.identity }
 reply_of (took r v) = pair 5 r v
 reply_of (asserted r b) = pair 6 r (digit b)
 
@@ -55,6 +58,18 @@ runnable calls out = min (length calls / 3) (length out / 4)
 unfoldable pub answered : Delivery → List ℕ → List ℕ → ℕ → List ℕ
 answered d calls out n = words_of (answers (start_of d) (calls_of calls n)) ++ drop (4 * n) out
 
--- how the code puts an answer: four stores. Nothing that a reader has to believe
+-- the rest is nothing that a reader has to believe: how the code tells what a wire, a claim and a signal told, and how it puts an answer, by four stores
+abbrev pub wired_reply : Result Unit Refusal → Reply
+wired_reply (Ok u) = short 0 0
+wired_reply (Err r) = short 0 (number_of r)
+
+abbrev pub claimed_reply : Result ℕ Refusal → Reply
+claimed_reply (Ok v) = pair 5 0 v
+claimed_reply (Err r) = pair 5 (number_of r) 0
+
+abbrev pub signalled_reply : Result Bool Refusal → Reply
+signalled_reply (Ok b) = pair 6 0 (digit b)
+signalled_reply (Err r) = pair 6 (number_of r) 0
+
 abbrev pub with_reply : List ℕ → ℕ → Reply → List ℕ
 with_reply out at r = set (set (set (set out at r.kind) (at + 1) r.first) (at + 2) r.second) (at + 3) r.third

@@ -4,6 +4,7 @@ use mathlib.Core.Bool.{Bool, true, false, not, ◌&&◌}
 use mathlib.Core.List.{List}
 use Prim.Native.Nat.{ℕ, ◌<◌, ◌≤◌}
 use lib.ListN.{length}
+use Rattle.std.specs.Prelude.{Some, None}
 use Rattle.word.specs.Word.{contains, is_source, only}
 use Rattle.register.specs.declared.BitRegister.{BitRegister}
 use Rattle.register.specs.declared.Register.{Register}
@@ -18,8 +19,6 @@ use Rattle.source.specs.Source.{direct_of, number_of, sensed, lowered}
 use Rattle.sources.specs.declared.Sources.{Sources}
 use Rattle.sources.specs.Sources.{source_of, table_with, Acts, first_waiting}
 use Rattle.aplic_calls.specs.declared.Msi.{Msi}
-use Rattle.aplic_calls.specs.declared.Sent.{Sent}
-use Rattle.aplic_calls.specs.declared.Sent.TheVariants.{Idle, Forwarded}
 use Rattle.aplic_calls.specs.Direct.{claims}
 use Rattle.aplic_calls.specs.Calls.{wire_table, read_bits, read_register, domain_word, forward_table, sends, sent_of, msi_of}
 use Rattle.aplic_calls.specs.Code.{Shows}
@@ -30,10 +29,10 @@ use Rattle.aplic_words.proofs.States.{table-put}
 -- ---- by the sources in the words
 module _ (ws : List ℕ) (long : 87 ≤ length ws) (s : Sources) (hs : s ≡ sources_in ws) where
   -- a wire
-  pub wire-goes : (d : Delivery) (n mask : ℕ) (level : Bool) (r : Sources) (out : List ℕ) → d ≡ delivery_in ws → ((i : ℕ) → is_source i ≡ true → contains mask i ≡ only n i) → Acts (contains mask) (sensed d level) s r
+  pub wire_goes : (d : Delivery) (n mask : ℕ) (level : Bool) (r : Sources) (out : List ℕ) → d ≡ delivery_in ws → ((i : ℕ) → is_source i ≡ true → contains mask i ≡ only n i) → Acts (contains mask) (sensed d level) s r
       → out ≡ with_sources ws r → table_in out ≡ wire_table n level (table_in ws)
   unfolding table_in
-  wire-goes d n mask level r out hd h a e =
+  wire_goes d n mask level r out hd h a e =
       ap table_in e ∙ table-put ws r long ∙ wired-table (common_in ws) s (target_in ws) n level mask r h (subst (λ (m : Delivery). Acts (contains mask) (sensed m level) s r) hd a) ∙ ap (λ (x : Sources). wire_table n level (table_with (common_in ws) x (target_in ws))) hs
 
   -- a read of a register of bits
@@ -65,7 +64,7 @@ module _ (ws : List ℕ) (long : 87 ≤ length ws) (s : Sources) (hs : s ≡ sou
         ∙ forwarded_table (common_in ws) s (target_in ws) n hn b (hb ∙ ap direct_of hd) (ap (λ (x : Bool). x && not b) (sym hi) ∙ e) l mask r h (subst (λ (m : Delivery). Acts (contains mask) (lowered m) s r) hd a)
         ∙ ap (λ (x : Sources). forward_table (table_with (common_in ws) x (target_in ws))) hs
 
-    pub forward-sends : (d : Delivery) (ie b : Bool) (t : ℕ) (m : Msi) → d ≡ delivery_in ws → ie ≡ enable_in ws → b ≡ direct_of d → ie && not b ≡ true → n < 64 → t ≡ target_in ws n → m ≡ msi_of t → Forwarded m ≡ sent_of (table_in ws)
+    pub forward-sends : (d : Delivery) (ie b : Bool) (t : ℕ) (m : Msi) → d ≡ delivery_in ws → ie ≡ enable_in ws → b ≡ direct_of d → ie && not b ≡ true → n < 64 → t ≡ target_in ws n → m ≡ msi_of t → Some m ≡ sent_of (table_in ws)
     unfolding table_in
     forward-sends d ie b t m hd hi hb e l ht hm = forwarded_sent (common_in ws) (sources_in ws) (target_in ws) n top b (hb ∙ ap direct_of hd) (ap (λ (x : Bool). x && not b) (sym hi) ∙ e) l m (hm ∙ ap msi_of ht)
 
@@ -74,12 +73,8 @@ unfolding table_in
 forward-off ws d ie b hd hi hb e = none-sent (common_in ws) (sources_in ws) (target_in ws) b (hb ∙ ap direct_of hd) (ap (λ (x : Bool). x && not b) (sym hi) ∙ e)
 
 -- what is forwarded isn't nothing
-pub forward-changes : (m : Msi) (xs ys : List ℕ) → Forwarded m ≡ Idle → xs ≡ ys
-forward-changes m xs ys e = absurd (subst Is e tt)
-  where
-    Is : Sent → Type 0
-    Is Idle = ⊥
-    Is (Forwarded m) = Unit {0}
+pub forward-changes : (m : Msi) (xs ys : List ℕ) → Some m ≡ None → xs ≡ ys
+forward-changes m xs ys e = cc
 
 -- ---- the other arms of a read
 module _ (ws : List ℕ) (o v : ℕ) (g : Register) (p : g ≡ register_of o) where

@@ -1,4 +1,5 @@
 // The words that a caller lends as a domain: what each stands for, read and put in place.
+// Each function here and in the crates above asks for at least 87 words of a slice: `&mut [u64; 87]` would ask callers for exactly 87. A struct over the lent words that holds this fact is still to be tried.
 #![tactic(auto)]
 
 ghost use Rattle.std.specs.Prelude.{◌≡◌, ◌<◌, ◌≤◌, ◌+◌, length as length_of, set};
@@ -9,6 +10,7 @@ use hart::Hart;
 use source::Delivery;
 use sources::Sources;
 
+#[tactic(auto, unfolding(crate::specs::State::sources_in))]
 pub fn sources_in(state: &[u64]) -> Sources
     requires { 87 ≤ length_of state.now }
     ensures { result ≡ sources_in state.now }
@@ -23,6 +25,7 @@ pub fn sources_in(state: &[u64]) -> Sources
     }
 }
 
+#[tactic(auto, unfolding(crate::specs::State::with_sources))]
 pub fn put_sources(state: &mut [u64], s: Sources)
     requires { 87 ≤ length_of state.old }
     ensures { state.new ≡ with_sources state.old s }
@@ -35,6 +38,7 @@ pub fn put_sources(state: &mut [u64], s: Sources)
     state[6] = s.enable;
 }
 
+#[tactic(auto, unfolding(crate::specs::State::enable_in))]
 pub fn is_enabled(state: &[u64]) -> bool
     requires { 87 ≤ length_of state.now }
     ensures { result ≡ enable_in state.now }
@@ -42,6 +46,7 @@ pub fn is_enabled(state: &[u64]) -> bool
     state[0] % 2 == 1
 }
 
+#[tactic(auto, unfolding(crate::specs::State::target_in))]
 pub fn target_in(state: &[u64], n: u64) -> u32
     requires { (87 ≤ length_of state.now) × (n < 64) }
     ensures { result ≡ target_in state.now n }
@@ -49,6 +54,7 @@ pub fn target_in(state: &[u64], n: u64) -> u32
     (state[7 + n as usize] % 0x1_0000_0000) as u32
 }
 
+#[tactic(auto, unfolding(crate::specs::State::delivery_in))]
 pub fn delivery_in(state: &[u64]) -> Delivery
     requires { 87 ≤ length_of state.now }
     ensures { result ≡ delivery_in state.now }
@@ -59,18 +65,19 @@ pub fn delivery_in(state: &[u64]) -> Delivery
     Delivery::Message
 }
 
+#[tactic(auto, unfolding(crate::specs::State::record_in))]
 pub fn record_in(state: &[u64], h: u64) -> Hart
     requires { (87 ≤ length_of state.now) × (h < 16) }
     ensures { result ≡ record_in state.now h }
 {
-    hart::record_of((state[71 + h as usize] % 0x1_0000_0000) as u32)
+    Hart::from((state[71 + h as usize] % 0x1_0000_0000) as u32)
 }
 
 pub fn put_record(state: &mut [u64], h: u64, x: Hart)
     requires { (87 ≤ length_of state.old) × (h < 16) }
     ensures { state.new ≡ set state.old (71 + h) (kept_of x) }
 {
-    state[71 + h as usize] = hart::kept(x) as u64;
+    state[71 + h as usize] = u32::from(x) as u64;
 }
 
 pub fn put_target(state: &mut [u64], n: u64, target: u32)

@@ -206,7 +206,7 @@ module _ (ws : List ℕ) (d : Delivery) (hd : d ≡ delivery_in ws) (b : Bool) (
       let low : x.threshold < 256 = rw hx (record_low ws h) in
       ap table_in ho ∙ hart-put ws h y long below (rw hy (wrote-small k v x low)) ∙ wrote-is (table_in ws) h (served ws d hd b hb h below e) k v x y (hx ∙ hart-there ws h below) hy
 
-pub ruleset hart-writes = (hart-written, hart_ignored, not-message)
+pub ruleset hart_writes = (hart-written, hart_ignored, not-message)
 
 pub ruleset ones = (configure-goes, aim-goes)
 

@@ -12,6 +12,7 @@ ghost use Rattle.aplic_words.specs.State.{delivery_in, table_in};
 
 use register::{HartRegister, Idc, Register};
 
+#[tactic(auto, using(aplic_words::proofs::States::beyond, crate::proofs::Writes::ones))]
 fn configure(state: &mut [u64], n: u64, v: u32)
     requires { (87 ≤ length_of state.old) × (0 < n) × (n < 64) }
     ensures table { table_in state.new ≡ act (only n) (configured (delivery_in state.old) v) (table_in state.old) }
@@ -24,6 +25,7 @@ fn configure(state: &mut [u64], n: u64, v: u32)
     aplic_words::put_target(state, n, s.target);
 }
 
+#[tactic(auto, using(aplic_words::proofs::States::beyond, crate::proofs::Writes::ones))]
 fn aim(state: &mut [u64], n: u64, v: u32)
     requires { (87 ≤ length_of state.old) × (0 < n) × (n < 64) }
     ensures table { table_in state.new ≡ act (only n) (aimed (delivery_in state.old) v) (table_in state.old) }
@@ -36,6 +38,7 @@ fn aim(state: &mut [u64], n: u64, v: u32)
     aplic_words::put_target(state, n, s.target);
 }
 
+#[tactic(auto, using(aplic_words::proofs::States::beyond, crate::proofs::Writes::hart_writes))]
 fn write_hart(state: &mut [u64], h: u64, k: HartRegister, v: u32)
     requires { (87 ≤ length_of state.old) × (h < 16) }
     ensures table { table_in state.new ≡ write_hart h k v (table_in state.old) }
@@ -43,13 +46,14 @@ fn write_hart(state: &mut [u64], h: u64, k: HartRegister, v: u32)
     ensures ignored { direct_of (delivery_in state.old) ≡ false → state.new ≡ state.old }
 {
     let d = aplic_words::delivery_in(state);
-    if source::is_direct(d) {
-        let x = hart::wrote(aplic_words::record_in(state, h), k, v);
+    if d.is_direct() {
+        let x = aplic_words::record_in(state, h).wrote(k, v);
         aplic_words::put_record(state, h, x);
     }
 }
 
 // A register of the first 16 KiB is written.
+#[tactic(auto, using(aplic_words::proofs::States::beyond, crate::proofs::Writes::writes, crate::proofs::Writes::changed, register::proofs::Known::knowing))]
 fn write_register(state: &mut [u64], offset: u64, v: u32)
     requires { 87 ≤ length_of state.old }
     ensures table { table_in state.new ≡ write_register (register_of offset) v (table_in state.old) }
@@ -77,6 +81,7 @@ fn write_register(state: &mut [u64], offset: u64, v: u32)
 }
 
 // A register of a hart is written.
+#[tactic(auto, using(aplic_calls::proofs::Claims::idc_writes, aplic_words::proofs::States::beyond, register::proofs::Known::knowing))]
 fn write_idc(state: &mut [u64], offset: u64, v: u32)
     requires { 87 ≤ length_of state.old }
     ensures table { table_in state.new ≡ write_idc (idc_of offset) v (table_in state.old) }
@@ -94,6 +99,7 @@ fn write_idc(state: &mut [u64], offset: u64, v: u32)
 }
 
 // A register is written: any offset, any value.
+#[tactic(auto, using(aplic_calls::proofs::Tables::spans, crate::proofs::Writes::ignoring))]
 pub fn write(state: &mut [u64], offset: u64, v: u32)
     requires { 87 ≤ length_of state.old }
     ensures table { table_in state.new ≡ write_table offset v (table_in state.old) }

@@ -5,7 +5,6 @@ ghost use Rattle.word.specs.Word.{digit};
 ghost use Rattle.hart.specs.Hart.{hart_refusal};
 ghost use Rattle.aplic_calls.specs.Direct.{claimed, claim_value, claims, signalled};
 ghost use Rattle.aplic_calls.specs.Calls.{wire_table, wire_refusal, write_table, ignores, read_table, after_read, forward_table, sent_of};
-ghost use Rattle.aplic_calls.specs.declared.Sent.TheVariants.{Idle};
 ghost use Rattle.aplic_words.specs.State.{delivery_in, table_in};
 ghost use Rattle.capi_room.specs.Room.{status};
 ghost use Rattle.capi_aplic.specs.Wired.{domain_status, room_status, under_status, with_sent};
@@ -76,7 +75,7 @@ pub extern "C" fn yasmurekh_aplic_forward(state: &mut [u64], out: &mut [u64]) ->
     ensures table { table_in state.new ≡ under_status result (table_in state.old) (forward_table (table_in state.old)) }
     ensures beyond { drop 87 state.new ≡ drop 87 state.old }
     ensures refused { (result ≡ 0 → ⊥) → state.new ≡ state.old }
-    ensures idle { sent_of (table_in state.old) ≡ Idle → state.new ≡ state.old }
+    ensures idle { sent_of (table_in state.old) ≡ None → state.new ≡ state.old }
 {
     capi_aplic::yasmurekh_aplic_forward(state, out)
 }

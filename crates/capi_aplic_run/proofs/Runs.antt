@@ -11,11 +11,12 @@ use Rattle.word.specs.Word.{digit}
 use Rattle.hart.specs.Hart.{hart_refusal}
 use Rattle.source.specs.declared.Delivery.{Delivery}
 use Rattle.source.specs.Table.{Table, start_of}
-use Rattle.aplic_calls.specs.declared.Sent.{Sent}
-use Rattle.aplic_calls.specs.declared.Sent.TheVariants.{Idle, Forwarded}
+use Rattle.std.specs.Prelude.{Option, Some, None}
+use Rattle.aplic_calls.specs.declared.Msi.{Msi}
+use Rattle.aplic_calls.specs.declared.Call.{Call}
 use Rattle.aplic_calls.specs.Calls.{wire_table, wire_refusal}
 use Rattle.aplic_calls.specs.Direct.{claimed, claim_value, signalled}
-use Rattle.aplic_calls.specs.Run.{Call, Answer, refusal, value, sent, took, asserted, answer, after, answers, after_all, Ran, end, next}
+use Rattle.aplic_calls.specs.Run.{Answer, refusal, value, sent, took, asserted, answer, after, answers, after_all, Ran, end, next}
 use Rattle.aplic_calls.proofs.Tables.{unwired_table}
 use Rattle.aplic_calls.proofs.Claims.{serve_refused, unserved-claim, unserved-value, unserved-signal}
 use Rattle.aplic_calls.proofs.Runs.{run-claim}
@@ -50,14 +51,14 @@ set_there [] v h = absurd (omega arith)
 set_there (x ∷ out) v h = refl
 
 -- four words say what was put into them
-sent-there : (out : List ℕ) (s : Sent) → 4 ≤ length out → sent_in (with_sent out s) ≡ s
+sent-there : (out : List ℕ) (s : Option Msi) → 4 ≤ length out → sent_in (with_sent out s) ≡ s
 unfolding with_sent
 sent-there [] s h = absurd (omega arith)
 sent-there (a ∷ []) s h = absurd (omega arith)
 sent-there (a ∷ b ∷ []) s h = absurd (omega arith)
 sent-there (a ∷ b ∷ c ∷ []) s h = absurd (omega arith)
-sent-there (a ∷ b ∷ c ∷ d ∷ out) Idle h = refl
-sent-there (a ∷ b ∷ c ∷ d ∷ out) (Forwarded m) h = refl
+sent-there (a ∷ b ∷ c ∷ d ∷ out) None h = refl
+sent-there (a ∷ b ∷ c ∷ d ∷ out) (Some m) h = refl
 
 -- a hart's number that is refused does nothing to the table and tells nothing
 in_room : (out : List ℕ) (t : ℕ) → 1 ≤ length out → room_status 1 out t ≡ t

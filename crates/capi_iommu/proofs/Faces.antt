@@ -4,10 +4,12 @@ use mathlib.Core.List.{List}
 use mathlib.Core.Path.{◌≡◌, refl, sym, ap, ◌∙◌}
 use lib.Dec.{leb}
 use lib.ListN.{length, set}
+use Rattle.std.specs.Prelude.{Option, Some, None}
 use borrow.Author.Tests.{lt-ltb, le-ltb}
 use Rattle.memory.specs.Window.{Lent, lent, Leaves}
 use Rattle.causes.specs.declared.Access.{Access}
-use Rattle.directory_process.specs.declared.ProcessId.{ProcessId}
+use Rattle.directory_process.specs.Found.{ProcessId}
+use Rattle.refusal.specs.declared.Refusal.TheVariants.{UnknownNumber}
 use Rattle.iommu_refusals.specs.declared.Settings.{Settings}
 use Rattle.iommu_refusals.specs.declared.DeviceRequest.{DeviceRequest}
 use Rattle.iommu_files.specs.declared.Answer.{Answer}
@@ -18,8 +20,6 @@ use Rattle.iommu.specs.Request.{request_of, after_request}
 use Rattle.iommu_files.proofs.Files.{unchanged, left-same}
 use Rattle.capi_room.specs.Room.{fitting}
 use Rattle.capi_room.proofs.Rooms.{short-kept, long-changed}
-use Rattle.capi_iommu.specs.declared.Chosen.{Chosen}
-use Rattle.capi_iommu.specs.declared.Chosen.TheVariants.{Known, Unknown}
 use Rattle.capi_iommu.specs.Face.{chosen_of, process_of, stage_of, with_answer, chosen_face, chosen_bytes, request_face, after_face}
 
 pub answer-put : (out : List ℕ) (a : Answer) (n : Numbers) (g : ℕ) → n ≡ numbers_of a → g ≡ stage_of a
@@ -36,25 +36,25 @@ pub long-left : (n : ℕ) (out : List ℕ) (l k : Lent) (us vs : List ℕ) → n
 long-left n out l k us vs h e = left-same k (fitting n out l k) us vs (long-changed n out l k k h refl) e
 
 -- a request, by what its numbers name
-module _ (s : Settings) (xs ys : List ℕ) (device process flags access address len value : ℕ) (k : Chosen) (hk : k ≡ chosen_of access) where
+module _ (s : Settings) (xs ys : List ℕ) (device process flags access address len value : ℕ) (k : Option Access) (hk : k ≡ chosen_of access) where
   abbrev answer : Answer
   answer = request_face (lent s.starts xs ys) s.mode s.root device process flags access address len value
 
   abbrev left : Lent
   left = after_face (lent s.starts xs ys) s.mode s.root device process flags access address len value
 
-  pub access-unknown : k ≡ Unknown → Refused 2010 ≡ answer
+  pub access-unknown : k ≡ None → Refused UnknownNumber ≡ answer
   unfolding request_face
   access-unknown e = ap (chosen_face (lent s.starts xs ys) s.mode s.root device process flags access address len value) (sym e ∙ hk)
 
-  pub unknown-bytes : k ≡ Unknown → Leaves left xs ys
+  pub unknown-bytes : k ≡ None → Leaves left xs ys
   unfolding after_face
   unknown-bytes e =
       left-same (lent s.starts xs ys) _ xs ys (ap (chosen_bytes (lent s.starts xs ys) s.mode s.root device process flags access address len value) (sym e ∙ hk))
       (unchanged s.starts xs ys)
 
-  module _ (x : Access) (e : k ≡ Known x) where
-    pub flags-unknown : 3 < flags → Refused 2010 ≡ answer
+  module _ (x : Access) (e : k ≡ Some x) where
+    pub flags-unknown : 3 < flags → Refused UnknownNumber ≡ answer
     unfolding request_face
     flags-unknown h = simp (← hk, e, lt-ltb 3 flags h)
 
@@ -92,3 +92,5 @@ long-answer n out before x a b h e k = long-changed n out before (with_answer ou
 
 pub long-answered : (n : ℕ) (out before x : List ℕ) (a b : Answer) → n ≤ length out → x ≡ with_answer out a → Answered a b → x ≡ fitting n out before (with_answer out b)
 long-answered n out before x a b h e k = long-answer n out before x a b h e k.same
+
+pub ruleset answer_ways = (short-left, long-left, long-answered)

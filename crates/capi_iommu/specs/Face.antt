@@ -1,28 +1,26 @@
 -- The face for C: numbers for what the routines take and answer (D26). Nothing of a request's meaning stands here.
-use Rattle.std.specs.Prelude.{ℕ, ◌%◌, Bool, List, eqb, ltb, leb, set}
+use Rattle.std.specs.Prelude.{ℕ, ◌%◌, Bool, List, Option, Some, None, eqb, ltb, leb, set}
 use Rattle.memory.specs.Choice.{pick}
 use Rattle.memory.specs.Window.{Lent}
 use Rattle.causes.specs.Causes.{stage_number}
 use Rattle.causes.specs.declared.Access.{Access}
 use Rattle.causes.specs.declared.Access.TheVariants.{Read, Write, Execute}
-use Rattle.directory_process.specs.declared.ProcessId.{ProcessId}
-use Rattle.directory_process.specs.declared.ProcessId.TheVariants.{Absent, Given}
+use Rattle.directory_process.specs.Found.{ProcessId}
+use Rattle.refusal.specs.declared.Refusal.TheVariants.{UnknownNumber}
 use Rattle.iommu_refusals.specs.declared.Settings.{Settings}
 use Rattle.iommu_refusals.specs.declared.DeviceRequest.{DeviceRequest}
 use Rattle.iommu_files.specs.declared.Answer.{Answer}
 use Rattle.iommu_files.specs.declared.Answer.TheVariants.{Translated, Redirected, Stored, Discarded, Fault, Refused, Taken}
 use Rattle.iommu_files.specs.Answers.{numbers_of}
 use Rattle.iommu.specs.Request.{request_of, after_request}
-use Rattle.capi_iommu.specs.declared.Chosen.{Chosen}
-use Rattle.capi_iommu.specs.declared.Chosen.TheVariants.{Known, Unknown}
 
 -- "access (0 read, 1 write, 2 read-for-execute)", as document 02's case files have it
-abbrev pub chosen_of : ℕ → Chosen
-chosen_of a = pick (eqb a 0) (Known Read) (pick (eqb a 1) (Known Write) (pick (eqb a 2) (Known Execute) Unknown))
+abbrev pub chosen_of : ℕ → Option Access
+chosen_of a = pick (eqb a 0) (Some Read) (pick (eqb a 1) (Some Write) (pick (eqb a 2) (Some Execute) None))
 
 -- "flags (1 process given, 2 supervisor)"
 abbrev pub process_of : ℕ → ℕ → ProcessId
-process_of flags p = pick (eqb (flags % 2) 1) (Given p) Absent
+process_of flags p = pick (eqb (flags % 2) 1) (Some p) None
 
 abbrev pub supervisor_of : ℕ → Bool
 supervisor_of flags = leb 2 flags
@@ -56,13 +54,13 @@ module _ (l : Lent) (mode root device process flags access address len value : �
   abbrev pub settings_face : Settings
   settings_face = settings_at l.first.start l.second.start mode root
 
-  abbrev pub chosen_face : Chosen → Answer
-  chosen_face Unknown = Refused 2010
-  chosen_face (Known x) = pick (ltb 3 flags) (Refused 2010) (request_of settings_face l.first.bytes l.second.bytes (asked device process flags address len x) value)
+  abbrev pub chosen_face : Option Access → Answer
+  chosen_face None = Refused UnknownNumber
+  chosen_face (Some x) = pick (ltb 3 flags) (Refused UnknownNumber) (request_of settings_face l.first.bytes l.second.bytes (asked device process flags address len x) value)
 
-  abbrev pub chosen_bytes : Chosen → Lent
-  chosen_bytes Unknown = l
-  chosen_bytes (Known x) = pick (ltb 3 flags) l (after_request settings_face l.first.bytes l.second.bytes (asked device process flags address len x) value)
+  abbrev pub chosen_bytes : Option Access → Lent
+  chosen_bytes None = l
+  chosen_bytes (Some x) = pick (ltb 3 flags) l (after_request settings_face l.first.bytes l.second.bytes (asked device process flags address len x) value)
 
   unfoldable pub request_face : Answer
   request_face = chosen_face (chosen_of access)

@@ -1,4 +1,4 @@
-// A request and a take for C and Rust: numbers and lent slices alone. Every input is answered.
+// A request and a take for C and Rust: numbers and lent slices alone. Every input is answered. Each routine tests its own buffer and has its own status, as C asks: no shell over them is plainer.
 #![tactic(auto)]
 
 ghost use Rattle.std.specs.Prelude.{◌≡◌, ◌≤◌, length as length_of};
@@ -8,41 +8,31 @@ ghost use Rattle.capi_iommu.specs.Face.{stage_of, with_answer, chosen_of, proces
 ghost use Rattle.capi_iommu.specs.Calls.{requested, taken, status_of, words_of, left_of};
 
 use causes::Access;
-use directory_process::ProcessId;
 use iommu_files::Answer;
 use iommu_refusals::{DeviceRequest, Settings};
 use memory::Starts;
+use refusal::Refusal;
 
-// An access that a number names.
-#[derive(Clone, Copy)]
-pub enum Chosen {
-    Known(Access),
-    Unknown,
-}
-
-fn choose(access: u64) -> Chosen
+// The access that a number names.
+fn choose(access: u64) -> Option<Access>
     ensures { result ≡ chosen_of access }
 {
-    if access == 0 {
-        return Chosen::Known(Access::Read);
+    match access {
+        0 => Some(Access::Read),
+        1 => Some(Access::Write),
+        2 => Some(Access::Execute),
+        _ => None,
     }
-    if access == 1 {
-        return Chosen::Known(Access::Write);
-    }
-    if access == 2 {
-        return Chosen::Known(Access::Execute);
-    }
-    Chosen::Unknown
 }
 
 // Flag 1: a process_id is given.
-fn process_of(flags: u64, process: u64) -> ProcessId
+fn process_of(flags: u64, process: u64) -> Option<u64>
     ensures { result ≡ process_of flags process }
 {
     if flags % 2 == 1 {
-        return ProcessId::Given(process);
+        return Some(process);
     }
-    ProcessId::Absent
+    None
 }
 
 // A fault's stage; 0 for any other answer.
@@ -50,16 +40,8 @@ fn stage_of(a: Answer) -> u64
     ensures { result ≡ stage_of a }
 {
     match a {
-        Answer::Fault(f) => {
-            let s = f.stage;
-            causes::stage_number(s)
-        }
-        Answer::Translated(_) => 0,
-        Answer::Redirected(_) => 0,
-        Answer::Stored(_) => 0,
-        Answer::Discarded => 0,
-        Answer::Refused(_) => 0,
-        Answer::Taken(_) => 0,
+        Answer::Fault(f) => causes::stage_number(f.stage),
+        _ => 0,
     }
 }
 
@@ -85,6 +67,8 @@ fn settings_at(first: u64, second: u64, mode: u64, root: u64) -> Settings
     Settings { starts, mode, root }
 }
 
+// A request by its numbers, one by one as the C function has them.
+#[tactic(auto, using(crate::proofs::Faces::face_ways))]
 fn face(
     s: Settings,
     first: &mut [u8],
@@ -100,21 +84,19 @@ fn face(
     ensures answer { result ≡ request_face (lent s.starts first.old second.old) s.mode s.root device process flags access address length value }
     ensures bytes { Leaves (after_face (lent s.starts first.old second.old) s.mode s.root device process flags access address length value) first.new second.new }
 {
-    let choice = choose(access);
-    let Chosen::Known(x) = choice else {
-        return Answer::Refused(2010);
+    let Some(x) = choose(access) else {
+        return Answer::Refused(Refusal::UnknownNumber);
     };
     if 3 < flags {
-        return Answer::Refused(2010);
+        return Answer::Refused(Refusal::UnknownNumber);
     }
-    let p = process_of(flags, process);
     let request = DeviceRequest {
-        device: device,
-        process: p,
+        device,
+        process: process_of(flags, process),
         supervisor: 2 <= flags,
         access: x,
-        address: address,
-        length: length,
+        address,
+        length,
     };
     iommu::request(s, first, second, request, value)
 }
@@ -152,6 +134,7 @@ pub fn yasmurekh_request(
 }
 
 // A take. Status and `out` as for a request.
+#[tactic(auto, using(capi_room::proofs::Rooms::room_ways, crate::proofs::Faces::answer_ways))]
 pub fn yasmurekh_take(
     first_start: u64,
     first: &mut [u8],

@@ -7,6 +7,8 @@ use native.Mathlib.Omega.{arith}
 use borrow.Author.Tests.{ltb-false}
 use lib.Dec.{ltb}
 use lib.ListN.{length}
+use Rattle.std.specs.Prelude.{Option, Some, None}
+use Rattle.refusal.specs.declared.Refusal.TheVariants.{UnknownNumber}
 use Rattle.memory.specs.Choice.{pick}
 use Rattle.causes.specs.declared.Access.{Access}
 use Rattle.iommu_refusals.specs.declared.DeviceRequest.{DeviceRequest}
@@ -20,8 +22,6 @@ use Rattle.ledger.specs.Closes.{Closes}
 use Rattle.ledger.proofs.Keeping.{Faith, Faithful}
 use Rattle.ledger.proofs.Closing.{closes_of}
 use Rattle.capi_room.specs.Room.{status, fitting}
-use Rattle.capi_iommu.specs.declared.Chosen.{Chosen}
-use Rattle.capi_iommu.specs.declared.Chosen.TheVariants.{Known, Unknown}
 use Rattle.capi_iommu.specs.Face.{chosen_of, asked, with_answer, chosen_face, chosen_bytes, request_face, after_face}
 use Rattle.capi_iommu.specs.Calls.{CCall, requested, taken, taken_many}
 use Rattle.capi_ledger.specs.CCalls.{chosen_asked, numbers_told, functions}
@@ -47,17 +47,17 @@ module _ (l : Lent) (mode root device process flags access address len value : �
   op x = request mode root (req x) value
 
   known : (x : Access) (f : Bool) → 5 ≤ length out
-      → Faith (pick f asks_nothing (asks (op x))) (numbers_told 0 (with_answer out (pick f (Refused 2010) (answer_of l (op x))))) (pick f l (after_of l (op x))) l
-  known x true r = ((2010, words-told out (Refused 2010) r), refl)
+      → Faith (pick f asks_nothing (asks (op x))) (numbers_told 0 (with_answer out (pick f (Refused UnknownNumber) (answer_of l (op x))))) (pick f l (after_of l (op x))) l
+  known x true r = ((2010, words-told out (Refused UnknownNumber) r), refl)
   known x false r = (words-told out (answer_of l (op x)) r, refl)
 
-  request_faith : (b : Bool) → ltb (length out) 5 ≡ b → (k : Chosen)
+  request_faith : (b : Bool) → ltb (length out) 5 ≡ b → (k : Option Access)
       → Faith (pick b asks_nothing (chosen_asked (ltb 3 flags) k op))
       (numbers_told (pick b 1 0) (pick b out (with_answer out (chosen_face l mode root device process flags access address len value k))))
       (pick b l (chosen_bytes l mode root device process flags access address len value k)) l
   request_faith true e k = ((0, refl), refl)
-  request_faith false e Unknown = ((2010, words-told out (Refused 2010) (room out e)), refl)
-  request_faith false e (Known x) = known x (ltb 3 flags) (room out e)
+  request_faith false e None = ((2010, words-told out (Refused UnknownNumber) (room out e)), refl)
+  request_faith false e (Some x) = known x (ltb 3 flags) (room out e)
 
 -- a take of either kind
 take_faith : (l : Lent) (o : Op) (out : List ℕ) (b : Bool) → ltb (length out) 5 ≡ b

@@ -1,20 +1,18 @@
 -- The machine of the C functions, for demand 3: what a C call asks, what it is told, and what it leaves, by the definitions that the functions' promises name.
-use Rattle.std.specs.Prelude.{ℕ, Bool, List, eqb, ltb, length, get_or}
+use Rattle.std.specs.Prelude.{ℕ, Bool, List, Option, Some, None, eqb, ltb, length, get_or}
 use Rattle.memory.specs.Choice.{pick}
 use Rattle.causes.specs.declared.Access.{Access}
 use Rattle.iommu_files.specs.declared.Numbers.{Numbers}
 use Rattle.iommu_files.specs.Answers.{numbers}
 use Rattle.iommu.specs.Operations.{Op, request, take, take_many}
 use Rattle.ledger.specs.Machine.{Asked, asks, asks_nothing, Machine}
-use Rattle.capi_iommu.specs.declared.Chosen.{Chosen}
-use Rattle.capi_iommu.specs.declared.Chosen.TheVariants.{Known, Unknown}
 use Rattle.capi_iommu.specs.Face.{chosen_of, asked}
 use Rattle.capi_iommu.specs.Calls.{CCall, requested, taken, taken_many, status_of, words_of, left_of}
 
 -- an access that is none, or an unknown flag, asks nothing: it is refused with 2010
-abbrev pub chosen_asked : Bool → Chosen → (Access → Op) → Asked
-chosen_asked unknown Unknown op = asks_nothing
-chosen_asked unknown (Known x) op = pick unknown asks_nothing (asks (op x))
+abbrev pub chosen_asked : Bool → Option Access → (Access → Op) → Asked
+chosen_asked unknown None op = asks_nothing
+chosen_asked unknown (Some x) op = pick unknown asks_nothing (asks (op x))
 
 -- and so does a call whose buffer has no room for the answer
 abbrev pub asked_of : CCall → Asked

@@ -1,4 +1,4 @@
-// A take of many for C and Rust.
+// A take of many for C and Rust. Each routine tests its own buffer and has its own status, as C asks: no shell over them is plainer.
 #![tactic(auto)]
 
 ghost use Rattle.std.specs.Prelude.{◌≡◌};
@@ -8,6 +8,7 @@ ghost use Rattle.capi_iommu.specs.Calls.{taken_many, status_of, words_of, left_o
 use memory::Starts;
 
 // A take of many. Status and `out` as for a request.
+#[tactic(auto, using(capi_room::proofs::Rooms::room_ways, capi_iommu::proofs::Faces::answer_ways))]
 pub fn yasmurekh_take_many(
     first_start: u64,
     first: &mut [u8],

@@ -1,9 +1,10 @@
 -- The fault queue for C: where it stands, in three lent words, and a read-out in six words of a buffer. Nothing of a queue's meaning stands here.
-use Rattle.std.specs.Prelude.{ℕ, Bool, true, false, not, List, eqb, get_or, set}
+use Rattle.std.specs.Prelude.{ℕ, Bool, true, false, not, List, eqb, get_or, set, Option, Some, None, Result, Ok, Err}
 use Rattle.memory.specs.Choice.{pick}
 use Rattle.fault_queue.specs.declared.QueueState.{QueueState}
-use Rattle.fault_queue.specs.declared.ReadOut.{ReadOut}
-use Rattle.fault_queue.specs.declared.ReadOut.TheVariants.{Handed, Empty, Refused}
+use Rattle.fault_queue.specs.declared.FaultRecord.{FaultRecord}
+use Rattle.refusal.specs.declared.Refusal.{Refusal}
+use Rattle.refusal.specs.Refusal.{number_of}
 
 -- head, tail and overflow flag, which stands where its word isn't 0
 abbrev pub state_in : List ℕ → QueueState
@@ -22,7 +23,7 @@ abbrev pub with_six : List ℕ → ℕ → ℕ → ℕ → ℕ → ℕ → ℕ �
 with_six out a b c d e f = set (set (set (set (set (set out 0 a) 1 b) 2 c) 3 d) 4 e) 5 f
 
 -- a read-out: the refusal or 0, whether a record is handed over, and its four doublewords
-abbrev pub with_read_out : List ℕ → ReadOut → List ℕ
-with_read_out out (Handed r) = with_six out 0 1 r.transaction r.custom r.iotval r.iotval2
-with_read_out out Empty = with_six out 0 0 0 0 0 0
-with_read_out out (Refused n) = with_six out n 0 0 0 0 0
+abbrev pub with_read_out : List ℕ → Result (Option FaultRecord) Refusal → List ℕ
+with_read_out out (Ok (Some r)) = with_six out 0 1 r.transaction r.custom r.iotval r.iotval2
+with_read_out out (Ok None) = with_six out 0 0 0 0 0 0
+with_read_out out (Err refusal) = with_six out (number_of refusal) 0 0 0 0 0

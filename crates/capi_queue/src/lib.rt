@@ -1,4 +1,5 @@
 // The fault queue for C and Rust: where it stands in three lent words, a read-out, and the clearing of the overflow flag.
+// Statuses, refusals and flags are numbers in lent words here, since C has no other form for them.
 #![tactic(auto)]
 
 ghost use Rattle.std.specs.Prelude.{◌≡◌, ◌≤◌, length as length_of};
@@ -6,7 +7,8 @@ ghost use Rattle.capi_room.specs.Room.{status, fitting, fitting_both};
 ghost use Rattle.fault_queue.specs.Queue.{queue_of, read_out_of, after_read_out, cleared};
 ghost use Rattle.capi_queue.specs.Words.{state_in, flag_word, with_state, with_six, with_read_out};
 
-use fault_queue::{FaultRecord, QueueState, ReadOut};
+use fault_queue::{FaultRecord, QueueState};
+use refusal::Refusal;
 
 // Head, tail and flag, as the words have them.
 pub fn state_in(state: &[u64]) -> QueueState
@@ -56,24 +58,19 @@ fn put_six(out: &mut [u64], refusal: u64, handed: u64, r: FaultRecord)
     out[5] = r.iotval2;
 }
 
-fn put_read_out(out: &mut [u64], read: ReadOut)
+fn put_read_out(out: &mut [u64], read: Result<Option<FaultRecord>, Refusal>)
     requires { 6 ≤ length_of out.old }
     ensures { out.new ≡ with_read_out out.old read }
 {
-    let none = FaultRecord {
-        transaction: 0,
-        custom: 0,
-        iotval: 0,
-        iotval2: 0,
-    };
     match read {
-        ReadOut::Handed(r) => put_six(out, 0, 1, r),
-        ReadOut::Empty => put_six(out, 0, 0, none),
-        ReadOut::Refused(number) => put_six(out, number, 0, none),
+        Ok(Some(r)) => put_six(out, 0, 1, r),
+        Ok(None) => put_six(out, 0, 0, FaultRecord::default()),
+        Err(refusal) => put_six(out, refusal.number(), 0, FaultRecord::default()),
     }
 }
 
 // A read-out. Status 0: `out` holds the refusal or 0, whether a record is handed over, and its four doublewords; status 1: `out` has fewer than six words or `state` fewer than three, and nothing changed.
+#[tactic(auto, using(crate::proofs::Words::read_ways))]
 pub fn yasmurekh_read_out(queue: &[u8], state: &mut [u64], out: &mut [u64]) -> u64
     ensures told { result ≡ fitting_both 6 out.old 3 state.old 1 0 }
     ensures answer { out.new ≡ fitting_both 6 out.old 3 state.old out.old (with_read_out out.old (read_out_of (queue_of queue.now (state_in state.old)))) }
@@ -85,15 +82,14 @@ pub fn yasmurekh_read_out(queue: &[u8], state: &mut [u64], out: &mut [u64]) -> u
     if state.len() < 3 {
         return 1;
     }
-    let removed = fault_queue::read_out(queue, state_in(state));
-    let read = removed.read;
-    let after = removed.state;
-    put_read_out(out, read);
-    put_state(state, after);
+    let mut q = state_in(state);
+    put_read_out(out, q.read_out(queue));
+    put_state(state, q);
     0
 }
 
 // The overflow flag is cleared. Status 0, or 1: `state` has fewer than three words, and nothing changed.
+#[tactic(auto, using(crate::proofs::Words::clear_ways))]
 pub fn yasmurekh_clear_overflow(state: &mut [u64]) -> u64
     ensures told { result ≡ status 3 state.old }
     ensures state { state.new ≡ fitting 3 state.old state.old (with_state state.old (cleared (state_in state.old))) }
@@ -101,7 +97,8 @@ pub fn yasmurekh_clear_overflow(state: &mut [u64]) -> u64
     if state.len() < 3 {
         return 1;
     }
-    let q = fault_queue::clear_overflow(state_in(state));
+    let mut q = state_in(state);
+    q.clear_overflow();
     put_state(state, q);
     0
 }

@@ -1,5 +1,5 @@
 -- A report's words, by the bytes that they are read from. Assumes nothing.
-use Prim.Native.Nat.{ℕ, zero, suc, ◌+◌, ◌*◌, ◌-◌, ◌<◌, ◌≤◌}
+use Prim.Native.Nat.{ℕ, zero, suc, ◌+◌, ◌*◌, ◌<◌, ◌≤◌}
 use mathlib.Core.List.{List, [], ◌∷◌, ◌++◌}
 use mathlib.Core.Bool.{Bool, true, false}
 use mathlib.Core.Path.{◌≡◌, refl, sym, ap, ◌∙◌}
@@ -9,21 +9,24 @@ use native.Mathlib.Nat.{not-suc-le-zero}
 use borrow.Author.Tests.{lt-ltb, le-ltb, ltb-true, ltb-false}
 use lib.Dec.{ltb}
 use lib.Count.{ones}
-use lib.ListN.{length, set, get_or, take, drop, length-set, length-append, replicate, get_or-replicate, get_or-append}
+use lib.ListN.{length, set, get_or, length-set, length-append, replicate, get_or-replicate, get_or-append}
 use lib.Seq.{get_or_at}
+use Rattle.std.specs.Prelude.{Result, Ok, Err}
 use Rattle.memory.specs.declared.Starts.{Starts}
-use Rattle.memory.specs.Window.{Lent, lent, part_of, doubleword}
+use Rattle.memory.specs.Window.{Lent, lent, part_of}
 use Rattle.interrupt_file.specs.declared.Pair.{Pair}
 use Rattle.interrupt_file.specs.Report.{pair_of, pairs_of, count_of, file_report, refused_report}
 use Rattle.iommu_files.specs.Files.{report_of}
 use Rattle.iommu_refusals.specs.Refusals.{report_refusal}
 use Rattle.iommu_refusals.specs.Code.{Reportable}
 use Rattle.iommu_refusals.proofs.Bounds.{file_bytes_lem}
-use Rattle.memory.specs.Choice.{unless_refused}
+use Rattle.refusal.specs.declared.Refusal.{Refusal}
+use Rattle.refusal.specs.Refusal.{number_of}
+use Rattle.refusal.specs.Checks.{unless_refused}
 use Rattle.capi_room.specs.Room.{fitting}
 use Rattle.capi_room.proofs.Rooms.{long-changed}
 use Rattle.capi_report.specs.Words.{no_pair, with_pairs, with_report, report_in}
-use Rattle.capi_report.specs.Code.{file_bytes, word_in, pair_in, pending_ones}
+use Rattle.capi_report.specs.Code.{number_told, file_bytes, word_in, pair_in, pending_ones}
 
 -- the first k pairs are put, and their ones counted
 pub record Put (pair : ℕ → Pair) (before : List ℕ) (k count : ℕ) (out : List ℕ) : Type 0 where
@@ -111,10 +114,10 @@ of_file_lem bytes out l =
     let q = agree (pair_in bytes) (pair_of bytes) out 32 (whole bytes l) in
     rw (p.0, q.1, counted bytes 32)
 
-of_refusal : (r : ℕ) (out : List ℕ)
-    → set (with_pairs (set out 0 r) (pair_in []) 32) 1 (pending_ones (pair_in []) 32) ≡ with_report out (refused_report r)
+of_refusal : (r : Refusal) (out : List ℕ)
+    → set (with_pairs (set out 0 (number_of r)) (pair_in []) 32) 1 (pending_ones (pair_in []) 32) ≡ with_report out (refused_report (number_of r))
 of_refusal r out =
-    let p = agree (pair_in []) (λ k. get_or (replicate 32 no_pair) k no_pair) (set out 0 r) 32 (λ k l. none k ∙ sym (get_or-replicate 32 k no_pair no_pair l)) in
+    let p = agree (pair_in []) (λ k. get_or (replicate 32 no_pair) k no_pair) (set out 0 (number_of r)) 32 (λ k l. none k ∙ sym (get_or-replicate 32 k no_pair no_pair l)) in
     let q = agree (pair_in []) (λ k. no_pair) out 32 (λ k l. none k) in
     rw (p.0, q.1, none-counted 32)
 
@@ -122,47 +125,17 @@ module _ (starts : Starts) (xs ys : List ℕ) (file : ℕ) (out : List ℕ) wher
   abbrev l : Lent
   l = lent starts xs ys
 
-  by_number : (r : ℕ) → Reportable starts (length xs) (length ys) file r
-      → set (with_pairs (set out 0 r) (pair_in (file_bytes l file r)) 32) 1 (pending_ones (pair_in (file_bytes l file r)) 32)
-      ≡ with_report out (unless_refused r refused_report (file_report (part_of l file 512)))
-  by_number zero h = of_file_lem (part_of l file 512) out (file_bytes_lem starts xs ys file h.0)
-  by_number (suc r) h = of_refusal (suc r) out
+  by_checks : (r : Result (Unit {0}) Refusal) → Reportable starts (length xs) (length ys) file r
+      → set (with_pairs (set out 0 (number_told r)) (pair_in (file_bytes l file r)) 32) 1 (pending_ones (pair_in (file_bytes l file r)) 32)
+      ≡ with_report out (unless_refused r (λ why. refused_report (number_of why)) (file_report (part_of l file 512)))
+  by_checks (Ok u) h = of_file_lem (part_of l file 512) out (file_bytes_lem starts xs ys file h.0)
+  by_checks (Err r) h = of_refusal r out
 
-  pub long-report : (n r : ℕ) (e before x : List ℕ) (c : ℕ)
-      → n ≤ length out → r ≡ report_refusal starts (length xs) (length ys) file → Reportable starts (length xs) (length ys) file r → e ≡ file_bytes l file r
-      → c ≡ pending_ones (pair_in e) 32 → x ≡ with_pairs (set out 0 r) (pair_in e) 32
+  pub long-report : (n t : ℕ) (r : Result (Unit {0}) Refusal) (e before x : List ℕ) (c : ℕ)
+      → n ≤ length out → r ≡ report_refusal starts (length xs) (length ys) file → Reportable starts (length xs) (length ys) file r → t ≡ number_told r → e ≡ file_bytes l file r
+      → c ≡ pending_ones (pair_in e) 32 → x ≡ with_pairs (set out 0 t) (pair_in e) 32
       → set x 1 c ≡ fitting n out before (with_report out (report_in l file))
   unfolding report_of
-  long-report n r e before x c room h k he hc hx =
+  long-report n t r e before x c room h k ht he hc hx =
       long-changed n out before _ _ room
-      (rw (hc, hx, he) (by_number r k) ∙ ap (λ (m : ℕ). with_report out (unless_refused m refused_report (file_report (part_of l file 512)))) h)
-
--- a doubleword is whole in the bytes, or isn't
-module _ (bytes : List ℕ) (i : ℕ) where
-  pub word_past : length bytes < i + 8 → 0 ≡ word_in bytes i
-  word_past h = simp (lt-ltb (length bytes) (i + 8) h)
-
-  pub word_held : (d : ℕ) → i + 8 ≤ length bytes → d ≡ doubleword bytes i → d ≡ word_in bytes i
-  word_held d h e = simp (e, le-ltb (length bytes) (i + 8) h)
-
-pairs-length : (out : List ℕ) (f : ℕ → Pair) (k : ℕ) → length (with_pairs out f k) ≡ length out
-unfolding with_pairs
-pairs-length out f zero = refl
-pairs-length out f (suc k) = simp length-set (pairs-length out f k)
-
-pub put-length : (before x : List ℕ) (f : ℕ → Pair) → x ≡ with_pairs before f 32 → length x ≡ length before
-put-length before x f e = ap length e ∙ pairs-length before f 32
-
--- the bytes of a file, and none where a report is refused
-module _ (l : Lent) (file r : ℕ) where
-  pub bytes-file : (e : List ℕ) → r ≡ 0 → e ≡ part_of l file 512 → e ≡ file_bytes l file r
-  bytes-file e z h = h ∙ ap (file_bytes l file) (sym z)
-
-  pub bytes-none : (xs : List ℕ) → (r ≡ 0 → ⊥) → take (0 - 0) (drop 0 xs) ≡ file_bytes l file r
-  bytes-none xs = go r
-    where
-      go : (m : ℕ) → (m ≡ 0 → ⊥) → take (0 - 0) (drop 0 xs) ≡ file_bytes l file m
-      go zero z = absurd (z refl)
-      go (suc m) z = refl
-
-pub ruleset bytes_ways = (bytes-file, bytes-none)
+      (rw (hc, hx, ht, he) (by_checks r k) ∙ ap (λ (m : Result (Unit {0}) Refusal). with_report out (unless_refused m (λ why. refused_report (number_of why)) (file_report (part_of l file 512)))) h)

@@ -1,4 +1,4 @@
-// The report for C and Rust: a file in either lent window, read into the words of a lent buffer.
+// The report for C and Rust: a file in either lent window, read into the words of a lent buffer. Each routine tests its own buffer and has its own status, as C asks: no shell over them is plainer.
 #![tactic(auto)]
 
 ghost use Rattle.std.specs.Prelude.{◌≡◌, ◌≤◌, ◌<◌, length as length_of};
@@ -6,9 +6,20 @@ ghost use Rattle.memory.specs.Window.{lent, lent_at};
 ghost use Rattle.iommu_refusals.specs.Code.{Reportable};
 ghost use Rattle.capi_room.specs.Room.{status, fitting};
 ghost use Rattle.capi_report.specs.Words.{with_pairs, with_report, report_in};
-ghost use Rattle.capi_report.specs.Code.{file_bytes, word_in, pair_in, pending_ones};
+ghost use Rattle.capi_report.specs.Code.{number_told, file_bytes, word_in, pair_in, pending_ones};
 
-use memory::Starts;
+use memory::{Starts, Windows};
+use refusal::Refusal;
+
+// The number of a refusal, and 0 for none.
+fn number_told(checked: Result<(), Refusal>) -> u64
+    ensures { result ≡ number_told checked }
+{
+    match checked {
+        Ok(()) => 0,
+        Err(why) => why.number(),
+    }
+}
 
 // The bytes of a file, as a part of whichever window holds it; none where a report is refused.
 fn file_bytes<'a>(
@@ -16,15 +27,22 @@ fn file_bytes<'a>(
     first: &'a [u8],
     second: &'a [u8],
     file: u64,
-    refusal: u64,
+    checked: Result<(), Refusal>,
 ) -> &'a [u8]
-    requires { Reportable starts (length_of first.now) (length_of second.now) file refusal }
-    ensures { result.now ≡ file_bytes (lent starts first.now second.now) file refusal }
+    requires { Reportable starts (length_of first.now) (length_of second.now) file checked }
+    ensures { result.now ≡ file_bytes (lent starts first.now second.now) file checked }
 {
-    if refusal == 0 {
-        return memory::entry(starts, first, second, file, 512);
+    match checked {
+        Ok(()) => {
+            let lent = Windows {
+                starts,
+                first,
+                second,
+            };
+            lent.entry(file, 512)
+        }
+        Err(_) => &first[0..0],
     }
-    &first[0..0]
 }
 
 // The doubleword at an index, or 0 where it isn't whole in the bytes.
@@ -45,14 +63,12 @@ fn put_pairs(bytes: &[u8], out: &mut [u64]) -> u64
     ensures words { out.new ≡ with_pairs out.old (pair_in bytes.now) 32 }
 {
     let mut count: u64 = 0;
-    let mut k: usize = 0;
-    while k < 32 {
+    for k in 0..32 {
         let pending = word_in(bytes, 16 * k);
         let enable = word_in(bytes, 16 * k + 8);
         out[2 + 2 * k] = pending;
         out[3 + 2 * k] = enable;
         count += interrupt_file::ones(pending);
-        k += 1;
     }
     count
 }
@@ -76,14 +92,11 @@ pub fn yasmurekh_report<'a>(
         first: first_start,
         second: second_start,
     };
-    let refusal = iommu_refusals::report_refusal(
-        starts,
-        first.len() as u64,
-        second.len() as u64,
-        file,
-    );
-    out[0] = refusal;
-    let count = put_pairs(file_bytes(starts, first, second, file, refusal), out);
+    let n = first.len() as u64;
+    let m = second.len() as u64;
+    let checked = iommu_refusals::report_refusal(starts, n, m, file);
+    out[0] = number_told(checked);
+    let count = put_pairs(file_bytes(starts, first, second, file, checked), out);
     out[1] = count;
     0
 }

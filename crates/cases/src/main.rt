@@ -2,60 +2,73 @@
 #![tactic(auto)]
 
 use causes::Access;
-use iommu_files::Answer;
+use layout::{Shown, TableEntry};
 use std::io;
 
-fn value(rt: &impl Print, v: u64) -> io::Result<()> {
-    print!(rt; " {v}")
-}
-
-fn show(rt: &impl Print, mark: u64, answer: Answer) -> io::Result<()> {
-    let n = iommu_files::to_numbers(answer);
-    print!(rt; "P{mark}")?;
-    value(rt, n.kind)?;
-    value(rt, n.first)?;
-    value(rt, n.second)?;
-    value(rt, n.third)?;
-    println!(rt)
-}
-
-fn case(
-    rt: &impl Print,
+// A case's mark, the entry of its file, and its access of four bytes.
+#[derive(Clone, Copy)]
+struct Case {
     mark: u64,
-    first: u64,
-    second: u64,
+    entry: TableEntry,
     access: Access,
     address: u64,
     data: u32,
-) -> io::Result<()> {
-    let mut window = layout::window(first, second);
-    let mut empty = [0u8; 0];
-    let settings = layout::settings(0);
-    let request = layout::ask(access, address, 4);
-    let answer = iommu::request(settings, &mut window, &mut empty, request, data);
-    show(rt, mark, answer)
+}
+
+// An access of the page under an entry whose second doubleword is 0.
+fn plain(mark: u64, low: u64, access: Access) -> Case {
+    Case {
+        mark,
+        entry: TableEntry { low, high: 0 },
+        access,
+        address: 0x80006000,
+        data: 0,
+    }
 }
 
 // A write under the entry of P6.
-fn write(rt: &impl Print, mark: u64, address: u64, data: u32) -> io::Result<()> {
-    case(
-        rt,
+fn write(mark: u64, address: u64, data: u32) -> Case {
+    Case {
         mark,
-        0x10000483,
-        0x100000000A000005,
-        Access::Write,
+        entry: TableEntry {
+            low: 0x10000483,
+            high: 0x100000000A000005,
+        },
+        access: Access::Write,
         address,
         data,
-    )
+    }
+}
+
+fn cases() -> [Case; 8] {
+    [
+        plain(5, 0xA000407, Access::Read),
+        write(6, 0x80006000, 37),
+        write(7, 0x80006004, 620756992),
+        write(8, 0x80006004, 37),
+        write(9, 0x80006000, 2047),
+        write(10, 0x80006000, 2048),
+        plain(13, 0xA000405, Access::Read),
+        plain(14, 0xA000407, Access::Execute),
+    ]
+}
+
+fn run(rt: &impl Print, case: Case) -> io::Result<()> {
+    let mut window = layout::window(case.entry);
+    let request = layout::ask(case.access, case.address, 4);
+    let answer = iommu::request(
+        layout::settings(0),
+        &mut window,
+        &mut [],
+        request,
+        case.data,
+    );
+    println!(rt; "P{} {}", case.mark, Shown(answer))
 }
 
 fn main(rt: HostRuntime) -> io::Result<()> {
-    case(&rt, 5, 0xA000407, 0, Access::Read, 0x80006000, 0)?;
-    write(&rt, 6, 0x80006000, 37)?;
-    write(&rt, 7, 0x80006004, 620756992)?;
-    write(&rt, 8, 0x80006004, 37)?;
-    write(&rt, 9, 0x80006000, 2047)?;
-    write(&rt, 10, 0x80006000, 2048)?;
-    case(&rt, 13, 0xA000405, 0, Access::Read, 0x80006000, 0)?;
-    case(&rt, 14, 0xA000407, 0, Access::Execute, 0x80006000, 0)
+    for case in cases() {
+        run(&rt, case)?;
+    }
+    Ok(())
 }

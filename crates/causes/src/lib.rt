@@ -5,7 +5,7 @@ ghost use Rattle.std.specs.Prelude.{◌≡◌};
 ghost use Rattle.causes.specs.Causes.{is_write, is_execute, access_fault, page_fault, guest_page_fault, disallowed as disallowed_of, stage_number};
 
 // 01: "read, write or read-for-execute".
-#[derive(Clone, Copy)]
+#[derive(Clone, Copy, Debug, PartialEq, Eq)]
 pub enum Access {
     Read,
     Write,
@@ -13,7 +13,7 @@ pub enum Access {
 }
 
 // 01: "a fault names the stage that found it".
-#[derive(Clone, Copy)]
+#[derive(Clone, Copy, Debug, PartialEq, Eq)]
 pub enum Stage {
     Directory,
     ProcessDirectory,
@@ -23,7 +23,7 @@ pub enum Stage {
 }
 
 // A fault: the standard's cause, and the stage.
-#[derive(Clone, Copy)]
+#[derive(Clone, Copy, Debug, PartialEq, Eq)]
 pub struct FaultInfo {
     pub cause: u64,
     pub stage: Stage,
@@ -32,23 +32,16 @@ pub struct FaultInfo {
 pub fn is_write(x: Access) -> bool
     ensures { result ≡ is_write x }
 {
-    match x {
-        Access::Read => false,
-        Access::Write => true,
-        Access::Execute => false,
-    }
+    x == Access::Write
 }
 
 pub fn is_execute(x: Access) -> bool
     ensures { result ≡ is_execute x }
 {
-    match x {
-        Access::Read => false,
-        Access::Write => false,
-        Access::Execute => true,
-    }
+    x == Access::Execute
 }
 
+// The standard's causes, here and below: tables with a row for each access, and no conversion of a type.
 pub fn access_fault(x: Access) -> u64
     ensures { result ≡ access_fault x }
 {
@@ -89,7 +82,7 @@ pub fn disallowed() -> FaultInfo
     }
 }
 
-// A stage's number at a face that knows only numbers.
+// A stage's number at a face that knows only numbers. A function, as that face calls it; a From beside it would say the same again.
 pub fn stage_number(s: Stage) -> u64
     ensures { result ≡ stage_number s }
 {

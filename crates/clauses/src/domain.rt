@@ -1,61 +1,75 @@
-// The rows about an APLIC domain: its making, its wires and registers, and what it delivers.
-use crate::state;
-use crate::state::State;
-use std::io;
+// An APLIC domain: its making, its wires and registers, and what it delivers. Each buffer is as long as its call asks, so a status of 1 never comes.
+use crate::row::{DomainCommand, Printer, Stop};
+use clauses_row::BadRow;
 
-// MODE, which word 7 has; all others are zero at reset.
-pub fn reset(s: State, n: [u64; 7], domain: &mut [u64; 87]) -> State {
-    if 1 < n[0] {
-        return state::broken(s);
+// The words of a domain.
+#[derive(Clone, Copy)]
+pub struct DomainWords([u64; 87]);
+
+impl DomainWords {
+    // MODE, which word 7 has; all others are zero at reset.
+    pub fn new([mode]: [u64; 1]) -> Result<DomainWords, BadRow> {
+        if 1 < mode {
+            return Err(BadRow);
+        }
+        let mut words = [0; 87];
+        words[7] = mode;
+        Ok(DomainWords(words))
     }
-    *domain = [0u64; 87];
-    domain[7] = n[0];
-    let mut t = s;
-    t.domain = true;
-    t
-}
 
-// SOURCE and LEVEL.
-pub fn wire(rt: &impl Print, s: State, n: [u64; 7], domain: &mut [u64; 87]) -> io::Result<State> {
-    if 1 < n[1] {
-        return Ok(state::broken(s));
+    fn wire(&mut self, [source, level]: [u64; 2]) -> Result<u64, BadRow> {
+        if 1 < level {
+            return Err(BadRow);
+        }
+        Ok(capi_aplic::yasmurekh_aplic_wire(&mut self.0, source, level))
     }
-    let refusal = capi_aplic::yasmurekh_aplic_wire(domain, n[0], n[1]);
-    state::one(rt, s, refusal)
-}
 
-// OFFSET and VALUE.
-pub fn write(s: State, n: [u64; 7], domain: &mut [u64; 87]) -> State {
-    if 0xFFFFFFFF < n[1] {
-        return state::broken(s);
+    fn write(&mut self, [offset, value]: [u64; 2]) -> Result<(), BadRow> {
+        if 0xFFFFFFFF < value {
+            return Err(BadRow);
+        }
+        capi_aplic::yasmurekh_aplic_write(&mut self.0, offset, value as u32);
+        Ok(())
     }
-    capi_aplic::yasmurekh_aplic_write(domain, n[0], n[1] as u32);
-    s
-}
 
-// OFFSET.
-pub fn read(rt: &impl Print, s: State, n: [u64; 7], domain: &mut [u64; 87]) -> io::Result<State> {
-    let mut out = [0u64; 1];
-    capi_aplic::yasmurekh_aplic_read(domain, n[0], &mut out);
-    state::one(rt, s, out[0])
-}
+    fn read(&mut self, [offset]: [u64; 1]) -> [u64; 1] {
+        let mut out = [0; 1];
+        capi_aplic::yasmurekh_aplic_read(&mut self.0, offset, &mut out);
+        out
+    }
 
-pub fn forward(rt: &impl Print, s: State, domain: &mut [u64; 87]) -> io::Result<State> {
-    let mut out = [0u64; 4];
-    capi_aplic::yasmurekh_aplic_forward(domain, &mut out);
-    state::four(rt, s, out[0], out[1], out[2], out[3])
-}
+    fn forward(&mut self) -> [u64; 4] {
+        let mut out = [0; 4];
+        capi_aplic::yasmurekh_aplic_forward(&mut self.0, &mut out);
+        out
+    }
 
-// HART. A refused call leaves the value at 0.
-pub fn claim(rt: &impl Print, s: State, n: [u64; 7], domain: &mut [u64; 87]) -> io::Result<State> {
-    let mut out = [0u64; 1];
-    let refusal = capi_aplic::yasmurekh_aplic_claim(domain, n[0], &mut out);
-    state::two(rt, s, refusal, out[0])
-}
+    // The refusal and the value, which a refused call leaves at 0.
+    fn claim(&mut self, [hart]: [u64; 1]) -> [u64; 2] {
+        let mut out = [0; 1];
+        let refusal = capi_aplic::yasmurekh_aplic_claim(&mut self.0, hart, &mut out);
+        [refusal, out[0]]
+    }
 
-// HART.
-pub fn signal(rt: &impl Print, s: State, n: [u64; 7], domain: &mut [u64; 87]) -> io::Result<State> {
-    let mut out = [0u64; 1];
-    let refusal = capi_aplic::yasmurekh_aplic_signal(domain, n[0], &mut out);
-    state::two(rt, s, refusal, out[0])
+    fn signal(&mut self, [hart]: [u64; 1]) -> [u64; 2] {
+        let mut out = [0; 1];
+        let refusal = capi_aplic::yasmurekh_aplic_signal(&mut self.0, hart, &mut out);
+        [refusal, out[0]]
+    }
+
+    pub fn obey<R: Print>(
+        &mut self,
+        printer: &mut Printer<'_, R>,
+        command: DomainCommand,
+    ) -> Result<(), Stop> {
+        match command {
+            DomainCommand::Wire(numbers) => printer.answer(&[self.wire(numbers)?])?,
+            DomainCommand::Write(numbers) => self.write(numbers)?,
+            DomainCommand::Read(numbers) => printer.answer(&self.read(numbers))?,
+            DomainCommand::Forward(_) => printer.answer(&self.forward())?,
+            DomainCommand::Claim(numbers) => printer.answer(&self.claim(numbers))?,
+            DomainCommand::Signal(numbers) => printer.answer(&self.signal(numbers))?,
+        }
+        Ok(())
+    }
 }

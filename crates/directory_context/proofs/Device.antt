@@ -83,7 +83,7 @@ module _ (c : DeviceContext) where
         by_bare t
         (or3 (ap not hv ∙ ap (λ q. not (q || scheme_mode (root_mode_of c.iohgatp))) (sym hb ∙ t)) (less_is 1 k ∙ ap (λ n. not (leb n 1)) hk) (ap (λ n. not (eqb (n % 4) 0)) hp))
 
-pub ruleset device-tests = (device_checks, first-process, first-dpe, first-mode, second-off, second-on)
+pub ruleset device_tests = (device_checks, first-process, first-dpe, first-mode, second-off, second-on)
 
 -- where no test of a list holds, none of its parts has one that does
 clear : (xs ys : List Bool) → any (xs ++ ys) ≡ false → (any xs ≡ false) × (any ys ≡ false)

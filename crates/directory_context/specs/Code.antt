@@ -1,10 +1,8 @@
--- Nothing here has to be believed: the device context's checks by the groups that the code makes of them, and bounds that a caller's sums need.
-use Rattle.std.specs.Prelude.{◌%◌, ◌<◌, ◌^◌, Bool, false, ◌&&◌, not, List, [], ◌∷◌, ◌≡◌, eqb, leb}
+-- Nothing here has to be believed: the device context's checks by the groups that the code makes of them.
+use Rattle.std.specs.Prelude.{◌%◌, Bool, ◌&&◌, not, List, [], ◌∷◌, eqb, leb}
 use Rattle.memory.specs.Bits.{any_set}
-use Rattle.paging_scheme.specs.Scheme.{signed_of}
 use Rattle.directory_entry.specs.Fields.{root_mode_of, root_page_of, bare_of, valid_mode}
 use Rattle.directory_context.specs.declared.DeviceContext.{DeviceContext}
-use Rattle.directory_context.specs.declared.DecodedContext.{DecodedContext}
 use Rattle.directory_context.specs.Device.{pdtv, dpe, guest_page_bits}
 
 module _ (c : DeviceContext) where
@@ -31,8 +29,3 @@ module _ (c : DeviceContext) where
       ∷ (not (bare_of c.iohgatp) && not (eqb (root_page_of c.iohgatp % 4) 0))
       ∷ (bare_of c.iohgatp && not (bare_of c.msiptp))
       ∷ []
-
--- a mask of guest page numbers, pages of 44 bits, a scheme of the second stage
-abbrev pub SoundContext : DecodedContext → Type 0
-SoundContext c =
-    (c.mask < 2 ^ 52) × (c.page < 2 ^ 44) × (c.second.root < 2 ^ 44) × (signed_of c.second.scheme ≡ false)

@@ -1,6 +1,9 @@
 -- The device context and its checks (01, "Directories"; 003, "Device-context configuration checks").
-use Rattle.std.specs.Prelude.{ℕ, ◌-◌, ◌%◌, Bool, ◌&&◌, not, [], ◌∷◌, eqb, leb}
+use Rattle.std.specs.Prelude.{ℕ, ◌-◌, ◌%◌, Bool, ◌&&◌, not, [], ◌∷◌, eqb, leb, None, Some}
+use Rattle.std.specs.declared.option.Option.{Option}
+use Rattle.message_recognition.specs.Table.{Messages}
 use Rattle.memory.specs.Choice.{any}
+use Rattle.memory.specs.Choice.{pick}
 use Rattle.memory.specs.Bits.{bit, any_set}
 use Rattle.directory_entry.specs.Fields.{root_mode_of, root_page_of, bare_of, valid_mode, second_table}
 use Rattle.directory_context.specs.declared.DeviceContext.{DeviceContext}
@@ -52,16 +55,17 @@ device_misconfigured c =
     ∷ (bare_of c.iohgatp && not (bare_of c.msiptp))
     ∷ [])
 
+-- the message table, with mask and pattern, where msiptp isn't Off
+abbrev pub messages_of : DeviceContext → Option Messages
+messages_of c = pick (bare_of c.msiptp) None (Some (record { page = root_page_of c.msiptp; mask = c.mask; pattern = c.pattern }))
+
 -- what a context that passes them says, at its address. Message recognition asks: "msiptp.MODE != Off"
 abbrev pub decoded_of : ℕ → DeviceContext → DecodedContext
 decoded_of address c =
     record {
       address = address;
       second = second_table c.iohgatp;
-      messages = not (bare_of c.msiptp);
-      page = root_page_of c.msiptp;
-      mask = c.mask;
-      pattern = c.pattern;
+      messages = messages_of c;
       fsc = c.fsc;
       pdtv = pdtv c;
       dpe = dpe c;

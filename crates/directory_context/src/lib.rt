@@ -3,14 +3,15 @@
 
 ghost use Rattle.std.specs.Prelude.{◌≡◌, ◌<◌, ◌^◌};
 ghost use Rattle.memory.specs.Choice.{any};
-ghost use Rattle.directory_context.specs.Device.{device_misconfigured, decoded_of};
+ghost use Rattle.directory_context.specs.Device.{device_misconfigured, messages_of, decoded_of};
 ghost use Rattle.directory_context.specs.Process.{process_misconfigured};
-ghost use Rattle.directory_context.specs.Code.{control_tests, table_tests, first_tests, second_tests, SoundContext};
+ghost use Rattle.directory_context.specs.Code.{control_tests, table_tests, first_tests, second_tests};
 
-use paging::PageTable;
+use message_recognition::MessageTable;
+use paging::GuestTable;
 
 // 01: "The context is 64 bytes in the order tc, iohgatp, ta, fsc, msiptp, mask, pattern, reserved".
-#[derive(Clone, Copy)]
+#[derive(Clone, Copy, Debug, PartialEq, Eq)]
 pub struct DeviceContext {
     pub tc: u64,
     pub iohgatp: u64,
@@ -27,13 +28,9 @@ pub struct DeviceContext {
 pub struct DecodedContext {
     pub address: u64,
     // iohgatp.
-    pub second: PageTable,
-    // msiptp: whether there is a message table, and its page.
-    pub messages: bool,
-    pub page: u64,
-    // How messages are recognised.
-    pub mask: u64,
-    pub pattern: u64,
+    pub second: Option<GuestTable>,
+    // msiptp, with mask and pattern.
+    pub messages: Option<MessageTable>,
     // The first stage's table, or with PDTV the process directory.
     pub fsc: u64,
     pub pdtv: bool,
@@ -41,7 +38,7 @@ pub struct DecodedContext {
 }
 
 // 01: "a leaf is 16 bytes, ta .., then fsc".
-#[derive(Clone, Copy)]
+#[derive(Clone, Copy, Debug, PartialEq, Eq)]
 pub struct ProcessContext {
     pub ta: u64,
     pub fsc: u64,
@@ -98,31 +95,44 @@ fn second_wrong(c: DeviceContext) -> bool
 }
 
 // All checks of 003, in groups of a few tests.
+#[tactic(auto, using(crate::proofs::Device::device_tests))]
 pub fn device_misconfigured(c: DeviceContext) -> bool
     ensures { result ≡ device_misconfigured c }
 {
     control_reserved(c) | table_reserved(c) | first_wrong(c) | second_wrong(c)
 }
 
-// What the context at an address says, once for all that ask.
-pub fn decode(address: u64, c: DeviceContext) -> DecodedContext
+// The message table; none where msiptp is Off.
+fn message_table(c: DeviceContext) -> Option<MessageTable>
     requires { c.mask < 2 ^ 52 }
-    ensures { (result ≡ decoded_of address c) × SoundContext result }
+    ensures { result ≡ messages_of c }
 {
-    let second = directory_entry::second_table(c.iohgatp);
-    DecodedContext {
-        address,
-        second,
-        messages: !directory_entry::bare(c.msiptp),
+    if directory_entry::bare(c.msiptp) {
+        return None;
+    }
+    Some(MessageTable {
         page: directory_entry::root_page(c.msiptp),
         mask: c.mask,
         pattern: c.pattern,
+    })
+}
+
+// What the context at an address says, once for all that ask.
+pub fn decode(address: u64, c: DeviceContext) -> DecodedContext
+    requires { c.mask < 2 ^ 52 }
+    ensures { result ≡ decoded_of address c }
+{
+    DecodedContext {
+        address,
+        second: directory_entry::second_table(c.iohgatp),
+        messages: message_table(c),
         fsc: c.fsc,
         pdtv: memory::bit(c.tc, 5),
         dpe: memory::bit(c.tc, 9),
     }
 }
 
+#[tactic(auto, using(crate::proofs::Process::process_checks))]
 pub fn process_misconfigured(c: ProcessContext) -> bool
     ensures { result ≡ process_misconfigured c }
 {

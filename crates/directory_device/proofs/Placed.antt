@@ -1,34 +1,33 @@
 -- Where a device context that was found lies. Assumes nothing.
+use Rattle.std.specs.Prelude.{Err, Ok}
 use Prim.Native.Nat.{ℕ, zero, suc, ◌+◌, ◌-◌, ◌*◌, ◌%◌}
 use mathlib.Core.Bool.{Bool, true, false}
 use mathlib.Core.Path.{◌≡◌, refl, sym, subst}
 use native.Mathlib.Omega.{arith}
 use Rattle.memory.specs.Choice.{pick}
 use Rattle.memory.specs.Bits.{bit}
-use Rattle.memory.specs.declared.Load.{Load}
+use Rattle.memory.specs.Load.{Load}
 use Rattle.memory.specs.Walk.{run}
 use Rattle.memory.proofs.Walks.{Read, run_bind, run-pick, run-load}
 use Rattle.paging.specs.Stages.{direct}
-use Rattle.paging_entry.specs.declared.Translation.{Translation}
-use Rattle.paging_entry.specs.declared.Translation.TheVariants.{To}
+use Rattle.paging_entry.specs.Purpose.{Translation}
 use Rattle.directory_entry.specs.declared.Tree.TheVariants.{Device}
 use Rattle.directory_entry.specs.Entries.{misconfigured, directory_index, pointer_of}
 use Rattle.directory_walk.specs.Pointers.{on_pointed, leaf_place}
 use Rattle.directory_context.specs.declared.DeviceContext.{DeviceContext}
 use Rattle.directory_context.specs.Device.{device_misconfigured, decoded_of}
-use Rattle.directory_device.specs.declared.DeviceFound.{DeviceFound}
-use Rattle.directory_device.specs.declared.DeviceFound.TheVariants.{Context, Fault}
+use Rattle.directory_device.specs.Found.{DeviceFound}
 use Rattle.directory_device.specs.Device.{checked_device, device_context_at, on_device_place, device_context_of}
 use Rattle.directory_device.proofs.Device.{next-page}
 
 -- a context is at a multiple of 64, and was read
 abbrev pub ContextPlaced : (ℕ → Load) → DeviceFound → Type 0
-ContextPlaced m (Context c) = (c.address % 64 ≡ 0) × Read m c.address
-ContextPlaced m (Fault f) = Unit {0}
+ContextPlaced m (Ok c) = (c.address % 64 ≡ 0) × Read m c.address
+ContextPlaced m (Err f) = Unit {0}
 
 abbrev LeafPlaced : Translation → Type 0
-LeafPlaced (To a) = a % 64 ≡ 0
-LeafPlaced (Translation.Fault f) = Unit {0}
+LeafPlaced (Ok a) = a % 64 ≡ 0
+LeafPlaced (Err f) = Unit {0}
 
 module _ (m : ℕ → Load) where
   leaf-placed : (d i table : ℕ) → table % 4096 ≡ 0 → LeafPlaced (run m (leaf_place Device d direct i table))
@@ -41,14 +40,14 @@ module _ (m : ℕ → Load) where
 
       go : (t : Translation) → pointer_of Device v ≡ t → ((k : ℕ) → k % 4096 ≡ 0 → LeafPlaced (run m (leaf_place Device d direct i k)))
           → LeafPlaced (run m (on_pointed (leaf_place Device d direct i) t))
-      go (To k) e next = next k (next-page Device v (To k) k (sym e) refl)
-      go (Translation.Fault f) e next = tt
+      go (Ok k) e next = next k (next-page Device v (Ok k) k (sym e) refl)
+      go (Err f) e next = tt
 
   module _ (a : ℕ) (aligned : a % 64 ≡ 0) where
     checked_placed : (c : DeviceContext) → Read m a → ContextPlaced m (checked_device a c)
     checked_placed c read = go (device_misconfigured c)
       where
-        go : (b : Bool) → ContextPlaced m (pick b (Fault (misconfigured Device)) (Context (decoded_of a c)))
+        go : (b : Bool) → ContextPlaced m (pick b (Err (misconfigured Device)) (Ok (decoded_of a c)))
         go true = tt
         go false = (aligned, read)
 
@@ -79,5 +78,5 @@ module _ (m : ℕ → Load) where
       (go (run m (leaf_place Device d direct (levels - 1) (root * 4096))) (leaf-placed d (levels - 1) (root * 4096) (omega arith)))
     where
       go : (t : Translation) → LeafPlaced t → ContextPlaced m (run m (on_device_place t))
-      go (To a) h = context-placed a h
-      go (Translation.Fault f) h = tt
+      go (Ok a) h = context-placed a h
+      go (Err f) h = tt

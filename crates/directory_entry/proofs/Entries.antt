@@ -1,4 +1,5 @@
 -- A non-leaf entry, and the first doubleword of a context, over plain values; for both directories. Assumes nothing.
+use Rattle.std.specs.Prelude.{Err, None, Ok, Some}
 use Prim.Native.Nat.{ℕ, ◌*◌, ◌<◌, ◌≤◌, ◌^◌}
 use native.Mathlib.Omega.{arith}
 use mathlib.Core.Bool.{Bool, true, false, not, ◌||◌, ◌&&◌}
@@ -7,14 +8,12 @@ use lib.Dec.{eqb, leb}
 use borrow.Author.Tests.{not-true, not-false, eq-eqb, ne_eqb, le-leb, lt-leb}
 use Rattle.memory.specs.Choice.{pick}
 use Rattle.memory.specs.Bits.{bits, bit, any_set}
-use Rattle.memory.specs.declared.Load.{Load}
-use Rattle.memory.specs.declared.Load.TheVariants.{Value, Violation}
+use Rattle.memory.specs.Load.{Load}
 use Rattle.memory.specs.Walk.{Walk, done, on_value, run}
 use Rattle.memory.proofs.Tests.{or2}
 use Rattle.memory.proofs.Walks.{loads, at}
 use Rattle.causes.specs.declared.FaultInfo.{FaultInfo}
-use Rattle.paging_entry.specs.declared.Translation.{Translation}
-use Rattle.paging_entry.specs.declared.Translation.TheVariants.{To, Fault}
+use Rattle.paging_entry.specs.Purpose.{Translation}
 use Rattle.directory_entry.specs.declared.Tree.{Tree}
 use Rattle.directory_entry.specs.declared.Tree.TheVariants.{Device, Process}
 use Rattle.directory_entry.specs.Code.{Below}
@@ -68,21 +67,21 @@ pub ruleset wide_ways = (wide-all, wide-third, wide-second)
 
 -- a non-leaf
 module _ (t : Tree) (v : Load) (f : FaultInfo) where
-  pub entry-unread : v ≡ Violation → f ≡ load_fault t → Fault f ≡ pointer_of t v
+  pub entry-unread : v ≡ None → f ≡ load_fault t → Err f ≡ pointer_of t v
   unfolding pointer_of
   entry-unread e h = simp (e, h)
 
-module _ (t : Tree) (v : Load) (e : ℕ) (he : v ≡ Value e) (b : Bool) (hb : b ≡ bit e 0) where
-  pub entry-invalid : (f : FaultInfo) → not b ≡ true → f ≡ invalid t → Fault f ≡ pointer_of t v
+module _ (t : Tree) (v : Load) (e : ℕ) (he : v ≡ Some e) (b : Bool) (hb : b ≡ bit e 0) where
+  pub entry-invalid : (f : FaultInfo) → not b ≡ true → f ≡ invalid t → Err f ≡ pointer_of t v
   unfolding pointer_of
   entry-invalid f s h = simp (he, ← hb, not-true b s, h)
 
   module _ (x y : Bool) (hx : x ≡ any_set e 9 1) (hy : y ≡ any_set e 63 54) (s : not b ≡ false) where
-    pub entry-wrong : (f : FaultInfo) → (x || y) ≡ true → f ≡ misconfigured t → Fault f ≡ pointer_of t v
+    pub entry-wrong : (f : FaultInfo) → (x || y) ≡ true → f ≡ misconfigured t → Err f ≡ pointer_of t v
     unfolding pointer_of
     entry-wrong f w h = simp (he, ← hb, not-false b s, sym (or2 hx hy) ∙ w, h)
 
-    pub entry_points : (n : ℕ) → (x || y) ≡ false → n ≡ bits e 53 10 → To (n * 4096) ≡ pointer_of t v
+    pub entry_points : (n : ℕ) → (x || y) ≡ false → n ≡ bits e 53 10 → Ok (n * 4096) ≡ pointer_of t v
     unfolding pointer_of
     entry_points n w h = simp (he, ← hb, not-false b s, sym (or2 hx hy) ∙ w, ← h)
 
@@ -99,10 +98,10 @@ module _ {A : Type 0} (m : ℕ → Load) (t : Tree) (answer : FaultInfo → A) (
   abbrev got : Load → Walk A
   got = on_value (done (answer (load_fault t))) after
 
-  pub context-unread : {x : A} → v ≡ Violation → x ≡ answer (load_fault t) → x ≡ run m (context_from t answer a rest)
+  pub context-unread : {x : A} → v ≡ None → x ≡ answer (load_fault t) → x ≡ run m (context_from t answer a rest)
   context-unread e h = loads m a got hv (at m got e h)
 
-  module _ (w : ℕ) (ev : v ≡ Value w) (b : Bool) (hb : b ≡ bit w 0) where
+  module _ (w : ℕ) (ev : v ≡ Some w) (b : Bool) (hb : b ≡ bit w 0) where
     tested : {q : Bool} {x : A} → b ≡ q → x ≡ run m (pick q (rest w) (done (answer (invalid t)))) → x ≡ run m (context_from t answer a rest)
     tested s e = loads m a got hv (at m got ev (at m (λ q. pick q (rest w) (done (answer (invalid t)))) (sym hb ∙ s) e))
 
@@ -113,5 +112,5 @@ module _ {A : Type 0} (m : ℕ → Load) (t : Tree) (answer : FaultInfo → A) (
     context-valid s h = tested (not-false b s) h
 
 -- the address that was found, if any, is small
-pub found_below : (n : ℕ) (y : Translation) (a : ℕ) → y ≡ To a → Below n y → a < n
+pub found_below : (n : ℕ) (y : Translation) (a : ℕ) → y ≡ Ok a → Below n y → a < n
 found_below n y a e h = subst (Below n) e h

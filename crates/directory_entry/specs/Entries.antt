@@ -1,15 +1,13 @@
 -- Entries of both directories (003, "Non-leaf DDT entry", "Non-leaf PDT entry"): which one is a device's or a process's, and what it says.
-use Rattle.std.specs.Prelude.{ℕ, ◌*◌, Bool, ◌||◌, ◌&&◌, not, [], ◌∷◌, eqb, leb}
+use Rattle.std.specs.Prelude.{ℕ, ◌*◌, Bool, ◌||◌, ◌&&◌, not, [], ◌∷◌, eqb, leb, Err, None, Ok, Some}
 use Rattle.memory.specs.Choice.{pick, any}
 use Rattle.memory.specs.Bits.{bits, bit, any_set}
-use Rattle.memory.specs.declared.Load.{Load}
-use Rattle.memory.specs.declared.Load.TheVariants.{Value, Violation}
+use Rattle.memory.specs.Load.{Load}
 use Rattle.memory.specs.Walk.{Walk, done, load_or}
 use Rattle.causes.specs.Causes.{fault_at}
 use Rattle.causes.specs.declared.Stage.TheVariants.{Directory, ProcessDirectory}
 use Rattle.causes.specs.declared.FaultInfo.{FaultInfo}
-use Rattle.paging_entry.specs.declared.Translation.{Translation}
-use Rattle.paging_entry.specs.declared.Translation.TheVariants.{To, Fault}
+use Rattle.paging_entry.specs.Purpose.{Translation}
 use Rattle.directory_entry.specs.declared.Tree.{Tree}
 use Rattle.directory_entry.specs.declared.Tree.TheVariants.{Device, Process}
 
@@ -42,11 +40,11 @@ too_wide t levels id =
 
 -- "A non-leaf entry is 8 bytes: V bit 0, page number bits 53:10, the rest reserved". It leads to the address of the next table
 unfoldable pub pointer_of : Tree → Load → Translation
-pointer_of t Violation = Fault (load_fault t)
-pointer_of t (Value e) =
+pointer_of t None = Err (load_fault t)
+pointer_of t (Some e) =
     pick (bit e 0)
-    (pick (any (any_set e 9 1 ∷ any_set e 63 54 ∷ [])) (Fault (misconfigured t)) (To (bits e 53 10 * 4096)))
-    (Fault (invalid t))
+    (pick (any (any_set e 9 1 ∷ any_set e 63 54 ∷ [])) (Err (misconfigured t)) (Ok (bits e 53 10 * 4096)))
+    (Err (invalid t))
 
 -- "The context is 64 bytes"; "a leaf is 16 bytes"
 abbrev pub leaf_size : Tree → ℕ

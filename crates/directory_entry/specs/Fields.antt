@@ -1,8 +1,9 @@
 -- Fields that iohgatp, fsc and msiptp share (01, "Directories": "hold a page number in bits 43:0 and a mode in 63:60").
-use Rattle.std.specs.Prelude.{ℕ, Bool, false, not, ◌&&◌, ◌||◌, eqb, leb}
+use Rattle.std.specs.Prelude.{ℕ, Bool, ◌&&◌, ◌||◌, eqb, leb, None, Some}
 use Rattle.memory.specs.Bits.{bits}
 use Rattle.memory.specs.Choice.{pick}
-use Rattle.paging.specs.declared.PageTable.{PageTable}
+use Rattle.std.specs.declared.option.Option.{Option}
+use Rattle.paging.specs.Table.{StageTable}
 use Rattle.paging_scheme.specs.declared.Scheme.{Scheme}
 use Rattle.paging_scheme.specs.declared.Scheme.TheVariants.{Sv39, Sv48, Sv57, Sv39x4, Sv48x4, Sv57x4}
 
@@ -31,12 +32,12 @@ abbrev pub second_scheme : ℕ → Scheme
 second_scheme mode = pick (eqb mode 10) Sv57x4 (pick (eqb mode 9) Sv48x4 Sv39x4)
 
 -- iosatp, as fsc holds it
-abbrev pub first_table : ℕ → PageTable
-first_table w = record { on = not (bare_of w); scheme = first_scheme (root_mode_of w); root = root_page_of w }
+abbrev pub first_table : ℕ → Option StageTable
+first_table w = pick (bare_of w) None (Some (record { scheme = first_scheme (root_mode_of w); root = root_page_of w }))
 
-abbrev pub second_table : ℕ → PageTable
-second_table w = record { on = not (bare_of w); scheme = second_scheme (root_mode_of w); root = root_page_of w }
+abbrev pub second_table : ℕ → Option StageTable
+second_table w = pick (bare_of w) None (Some (record { scheme = second_scheme (root_mode_of w); root = root_page_of w }))
 
 -- "Let iosatp.MODE be Bare"
-abbrev pub bare_table : PageTable
-bare_table = record { on = false; scheme = Sv39; root = 0 }
+abbrev pub bare_table : Option StageTable
+bare_table = None

@@ -4,17 +4,15 @@
 ghost use Rattle.std.specs.Prelude.{◌≡◌, false, ◌*◌, ◌<◌, ◌^◌};
 ghost use Rattle.paging_scheme.specs.Scheme.{signed_of};
 ghost use Rattle.directory_entry.specs.Entries.{load_fault, invalid as invalid_of, misconfigured as misconfigured_of, pointer_of, by_level, directory_index, leaf_size, too_wide};
-ghost use Rattle.directory_entry.specs.Fields.{root_mode_of, root_page_of, bare_of, scheme_mode, valid_mode, first_scheme, second_scheme, first_table, second_table, bare_table};
+ghost use Rattle.directory_entry.specs.Fields.{root_mode_of, root_page_of, bare_of, scheme_mode, valid_mode, first_scheme, second_scheme, first_table, second_table};
 ghost use Rattle.directory_entry.specs.Code.{Below};
 
 use causes::{FaultInfo, Stage};
-use memory::Load;
-use paging::PageTable;
-use paging_entry::Translation;
+use paging::{FirstTable, GuestTable, PageTable};
 use paging_scheme::Scheme;
 
 // The two directories.
-#[derive(Clone, Copy)]
+#[derive(Clone, Copy, Debug, PartialEq, Eq)]
 pub enum Tree {
     Device,
     Process,
@@ -69,19 +67,20 @@ pub fn misconfigured(t: Tree) -> FaultInfo
 }
 
 // A non-leaf entry as it was loaded: the address of the next table.
-pub fn pointer(t: Tree, v: Load) -> Translation
+#[tactic(auto, using(crate::proofs::Entries::pointer_ways))]
+pub fn pointer(t: Tree, v: Option<u64>) -> Result<u64, FaultInfo>
     ensures { (result ≡ pointer_of t v) × Below (2 ^ 56) result }
 {
-    let Load::Value(e) = v else {
-        return Translation::Fault(load_fault(t));
+    let Some(e) = v else {
+        return Err(load_fault(t));
     };
     if !memory::bit(e, 0) {
-        return Translation::Fault(invalid(t));
+        return Err(invalid(t));
     }
     if memory::any_set(e, 9, 1) | memory::any_set(e, 63, 54) {
-        return Translation::Fault(misconfigured(t));
+        return Err(misconfigured(t));
     }
-    Translation::To(memory::field(e, 53, 10) * 4096)
+    Ok(memory::field(e, 53, 10) * 4096)
 }
 
 // The first, the second or the third, by the level.
@@ -89,13 +88,11 @@ fn by_level(n: u64, a: u64, b: u64, c: u64) -> u64
     requires { (a < 512) × (b < 512) × (c < 512) }
     ensures { (result ≡ by_level n a b c) × (result < 512) }
 {
-    if n == 0 {
-        return a;
+    match n {
+        0 => a,
+        1 => b,
+        _ => c,
     }
-    if n == 1 {
-        return b;
-    }
-    c
 }
 
 // Which entry of a table n levels above the leaf's is that of a device or a process.
@@ -130,6 +127,7 @@ pub fn leaf_offset(t: Tree, i: u64) -> u64
 }
 
 // An index above the level count isn't zero.
+#[tactic(auto, using(crate::proofs::Entries::wide_ways))]
 pub fn too_wide(t: Tree, levels: u64, id: u64) -> bool
     ensures { result ≡ too_wide t levels id }
 {
@@ -178,56 +176,45 @@ pub fn valid_mode(w: u64) -> bool
 fn first_scheme(mode: u64) -> Scheme
     ensures { result ≡ first_scheme mode }
 {
-    if mode == 10 {
-        return Scheme::Sv57;
+    match mode {
+        10 => Scheme::Sv57,
+        9 => Scheme::Sv48,
+        _ => Scheme::Sv39,
     }
-    if mode == 9 {
-        return Scheme::Sv48;
-    }
-    Scheme::Sv39
 }
 
 fn second_scheme(guest: u64) -> Scheme
     ensures { (result ≡ second_scheme guest) × (signed_of result ≡ false) }
 {
-    if guest == 10 {
-        return Scheme::Sv57x4;
+    match guest {
+        10 => Scheme::Sv57x4,
+        9 => Scheme::Sv48x4,
+        _ => Scheme::Sv39x4,
     }
-    if guest == 9 {
-        return Scheme::Sv48x4;
-    }
-    Scheme::Sv39x4
 }
 
-// The first stage's table, as fsc gives it.
-pub fn iosatp(fsc: u64) -> PageTable
-    ensures { (result ≡ first_table fsc) × (result.root < 2 ^ 44) }
+// The first stage's table, as fsc gives it; none where it is Bare.
+pub fn iosatp(fsc: u64) -> Option<FirstTable>
+    ensures { result ≡ first_table fsc }
 {
-    PageTable {
-        on: !bare(fsc),
+    if bare(fsc) {
+        return None;
+    }
+    Some(PageTable {
         scheme: first_scheme(root_mode(fsc)),
         root: root_page(fsc),
-    }
+    })
 }
 
 // The second stage's, as iohgatp gives it.
-pub fn second_table(iohgatp: u64) -> PageTable
-    ensures { (result ≡ second_table iohgatp) × (result.root < 2 ^ 44) × (signed_of result.scheme ≡ false) }
+pub fn second_table(iohgatp: u64) -> Option<GuestTable>
+    ensures { result ≡ second_table iohgatp }
 {
-    PageTable {
-        on: !bare(iohgatp),
+    if bare(iohgatp) {
+        return None;
+    }
+    Some(PageTable {
         scheme: second_scheme(root_mode(iohgatp)),
         root: root_page(iohgatp),
-    }
-}
-
-// A first stage that changes no address.
-pub fn bare_table() -> PageTable
-    ensures { (result ≡ bare_table) × (result.root < 2 ^ 44) }
-{
-    PageTable {
-        on: false,
-        scheme: Scheme::Sv39,
-        root: 0,
-    }
+    })
 }

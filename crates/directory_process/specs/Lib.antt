@@ -1,2 +1,3 @@
+pub mod Found
 pub mod Process
 pub mod Code

@@ -1,18 +1,16 @@
 -- Lengths of a queue: numbers with one bit. Assumes nothing.
-use Prim.Native.Nat.{ℕ, zero, suc, ◌+◌, ◌-◌, ◌*◌, ◌/◌, ◌%◌, ◌^◌, ◌≤◌, ◌<◌, min}
-use mathlib.Core.Bool.{true, false}
+use Prim.Native.Nat.{ℕ, zero, suc, ◌+◌, ◌-◌, ◌*◌, ◌/◌, ◌%◌, ◌^◌, ◌≤◌, ◌<◌}
+use mathlib.Core.Bool.{true}
 use mathlib.Core.Logic.{◌⊎◌, inl, inr, ◌↔◌}
 use mathlib.Core.Path.{◌≡◌, refl, sym, ap, ◌∙◌}
-use native.Mathlib.Nat.{add-zero, pow-suc, zero-min}
+use native.Mathlib.Nat.{pow-suc}
 use native.Mathlib.Decide.{dec_lt}
 use native.Mathlib.Omega.{arith}
-use borrow.Author.Tests.{eq-eqb, eqb-true, le-leb, lt-leb, leb-true}
+use borrow.Author.Tests.{eq-eqb, eqb-true, le-leb, leb-true}
 use lib.Arith.{bin_ind}
-use lib.Bits.{bit_and, and_step, and_self}
 use lib.Count.{ones, ones_step, ones_cat}
-use lib.Dec.{eqb}
 use lib.Pow.{pow-add, pow-lt, pow_pos}
-use Rattle.memory.proofs.Choices.{eqb_same}
+use Rattle.std.proofs.lemmas.Nat.{zero_from_ones}
 use Rattle.memory.proofs.Truth.{and_true}
 use Rattle.fault_queue.specs.Queue.{legal_length}
 
@@ -24,9 +22,6 @@ ones-one : ones 1 ≡ 1
 unfolding ones
 ones-one = refl
 
-no_ones : (n : ℕ) → ones n ≡ 0 → n ≡ 0
-no_ones = bin_ind (λ n. ones n ≡ 0 → n ≡ 0) (λ e. refl) (λ n ih e. let s = ones_step n in let h = ih (omega arith) in omega arith)
-
 -- the lowest bit
 even_odd : (n : ℕ) → (n % 2 ≡ 0) ⊎ (n % 2 ≡ 1)
 even_odd n = go (n % 2) (omega arith)
@@ -35,48 +30,6 @@ even_odd n = go (n % 2) (omega arith)
     go zero l = inl refl
     go (suc zero) l = inr refl
     go (suc (suc r)) l = absurd (omega arith)
-
--- a number and the one before it
-before-even : (n : ℕ) → 0 < n → n % 2 ≡ 0 → bit_and n (n - 1) ≡ bit_and (n / 2) (n / 2 - 1) * 2
-before-even n p e =
-    let h : (n - 1) / 2 ≡ n / 2 - 1 = omega arith in
-    let m : min (n % 2) ((n - 1) % 2) ≡ 0 = rw (e, zero-min) in
-    rw (and_step n (n - 1), h, m, add-zero)
-
-before-odd : (n : ℕ) → n % 2 ≡ 1 → bit_and n (n - 1) ≡ n / 2 * 2
-before-odd n e =
-    let h : (n - 1) / 2 ≡ n / 2 = omega arith in
-    let l : (n - 1) % 2 ≡ 0 = omega arith in
-    let m : min (n % 2) ((n - 1) % 2) ≡ 0 = rw (e, l) in
-    rw (and_step n (n - 1), h, m, and_self, add-zero)
-
-one_bit : (n : ℕ) → 0 < n → (bit_and n (n - 1) ≡ 0 → ones n ≡ 1) × (ones n ≡ 1 → bit_and n (n - 1) ≡ 0)
-one_bit = bin_ind (λ n. 0 < n → (bit_and n (n - 1) ≡ 0 → ones n ≡ 1) × (ones n ≡ 1 → bit_and n (n - 1) ≡ 0)) (λ p. absurd (omega arith)) (λ n ih p. go n ih p (even_odd n))
-  where
-    go : (n : ℕ) → (0 < n / 2 → (bit_and (n / 2) (n / 2 - 1) ≡ 0 → ones (n / 2) ≡ 1) × (ones (n / 2) ≡ 1 → bit_and (n / 2) (n / 2 - 1) ≡ 0)) → 0 < n → (n % 2 ≡ 0) ⊎ (n % 2 ≡ 1)
-        → (bit_and n (n - 1) ≡ 0 → ones n ≡ 1) × (ones n ≡ 1 → bit_and n (n - 1) ≡ 0)
-    go n ih p (inl e) =
-        let b = before-even n p e in
-        let s = ones_step n in
-        let h = ih (omega arith) in
-        ((λ z. let o = h.0 (omega arith) in omega arith), (λ z. let o = h.1 (omega arith) in omega arith))
-    go n ih p (inr e) =
-        let b = before-odd n e in
-        let s = ones_step n in (
-          (λ z. let o : ones (n / 2) ≡ 0 = ap ones (let q : n / 2 ≡ 0 = omega arith in q) ∙ ones-zero in omega arith),
-          (λ z. let o = no_ones (n / 2) (omega arith) in omega arith),
-        )
-
--- the tests of the code
-pub short : (len : ℕ) → len < 64 → false ≡ legal_length len
-unfolding legal_length
-short len h = rw (lt-leb 64 len h)
-
-pub long : (len : ℕ) → 64 ≤ len → eqb (bit_and len (len - 1)) 0 ≡ legal_length len
-unfolding legal_length
-long len h = let b = one_bit len (omega arith) in rw (le-leb 64 len h) (eqb_same (bit_and len (len - 1)) 0 (ones len) 1 b.0 b.1)
-
-pub ruleset length_ways = (short, long)
 
 -- a number with one bit is a power of two, and a power of two has one bit
 power : (n : ℕ) → ones n ≡ 1 → (k : ℕ) × (n ≡ 2 ^ k)
@@ -89,7 +42,7 @@ power = bin_ind (λ n. ones n ≡ 1 → (k : ℕ) × (n ≡ 2 ^ k)) (λ e. absur
         (suc p.0, omega (arith, p.1, pow-suc 2 p.0))
     go n ih e (inr z) =
         let s = ones_step n in
-        let o = no_ones (n / 2) (omega arith) in
+        let o = zero_from_ones (n / 2) (omega arith) in
         (0, omega arith)
 
 ones_power : (k : ℕ) → ones (2 ^ k) ≡ 1

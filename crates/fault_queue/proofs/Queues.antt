@@ -3,43 +3,19 @@ use Prim.Native.Nat.{ℕ, ◌+◌, ◌-◌, ◌*◌, ◌/◌, ◌≤◌, ◌<◌
 use mathlib.Core.Bool.{Bool, true, false, not, ◌||◌}
 use mathlib.Core.List.{List}
 use mathlib.Core.Path.{◌≡◌, refl, sym, ap, ◌∙◌}
-use native.Mathlib.Nat.{mod-eq_of_lt, mod_self}
 use native.Mathlib.Omega.{arith}
 use borrow.Author.Tests.{eq-eqb, ne_eqb, leb-false}
 use borrow.Rule.Slice.PartMut.{put_mid}
-use lib.Dec.{eqb, leb}
+use lib.Dec.{leb}
 use lib.ListN.{length}
 use Rattle.memory.proofs.Truth.{true-false}
 use Rattle.fault_queue.specs.declared.QueueState.{QueueState}
 use Rattle.fault_queue.specs.declared.FaultRecord.{FaultRecord}
-use Rattle.fault_queue.specs.declared.ReadOut.{ReadOut}
-use Rattle.fault_queue.specs.declared.ReadOut.TheVariants.{Handed, Empty, Refused}
+use Rattle.refusal.specs.declared.Refusal.{Refusal}
+use Rattle.refusal.specs.declared.Refusal.TheVariants.{BadQueue}
+use Rattle.std.specs.Prelude.{Option, Some, None, Result, Ok, Err}
 use Rattle.fault_queue.specs.Queue.{queue_of, legal_length, bad_queue, following, is_full, record_bytes, record_at, drops, overflowed, moved_by, filed, read_out_of, after_read_out}
 use Rattle.fault_queue.proofs.Records.{slot_put}
-
--- the index after another one
-pub wraps : (slots i : ℕ) → i + 1 ≡ slots → 0 ≡ following slots i
-wraps slots i e = rw e (sym (mod_self slots))
-
-pub steps : (slots i : ℕ) → i < slots → (i + 1 ≡ slots → ⊥) → i + 1 ≡ following slots i
-steps slots i h n = sym (mod-eq_of_lt (let l : i + 1 < slots = omega arith in l))
-
-pub full_is : (slots next : ℕ) (q : QueueState) → next ≡ following slots q.tail → eqb next q.head ≡ is_full slots q
-full_is slots next q e = ap (λ n. eqb n q.head) e
-
-pub ruleset index_ways = (wraps, steps, full_is)
-
--- the test of 2013
-module _ (len : ℕ) (q : QueueState) (b : Bool) (hb : b ≡ legal_length len) where
-  pub legal-stands : b ≡ true → (leb (len / 32) q.head || leb (len / 32) q.tail) ≡ bad_queue len q
-  unfolding bad_queue
-  legal-stands e = rw (← hb, e)
-
-  pub illegal_falls : b ≡ false → true ≡ bad_queue len q
-  unfolding bad_queue
-  illegal_falls e = rw (← hb, e)
-
-pub ruleset bad_ways = (legal-stands, illegal_falls)
 
 neither : (a b : Bool) → (a || b) ≡ false → (a ≡ false) × (b ≡ false)
 neither false b e = (refl, e)
@@ -95,35 +71,35 @@ pub ruleset put_ways = (head-below, tail-below, tail-whole, drop-state, drop-byt
 
 -- a read-out
 module _ (xs : List ℕ) (q : QueueState) (b : Bool) (hb : b ≡ bad_queue (length xs) q) where
-  by_read : (s : QueueState) (o : ReadOut) → o ≡ read_out_of (queue_of xs q) → s ≡ (moved_by o (queue_of xs q)).state → s ≡ (after_read_out (queue_of xs q)).state
+  by_read : (s : QueueState) (o : Result (Option FaultRecord) Refusal) → o ≡ read_out_of (queue_of xs q) → s ≡ (moved_by o (queue_of xs q)).state → s ≡ (after_read_out (queue_of xs q)).state
   unfolding after_read_out
   by_read s o e m = m ∙ ap (λ o. (moved_by o (queue_of xs q)).state) e
 
   module _ (e : b ≡ true) where
-    pub refused-read : Refused 2013 ≡ read_out_of (queue_of xs q)
+    pub refused-read : Err BadQueue ≡ read_out_of (queue_of xs q)
     unfolding read_out_of
     refused-read = rw (← hb, e)
 
     pub refused-state : q ≡ (after_read_out (queue_of xs q)).state
-    refused-state = by_read q (Refused 2013) refused-read refl
+    refused-state = by_read q (Err BadQueue) refused-read refl
 
   module _ (e : b ≡ false) where
     pub good-read : bad_queue (length xs) q ≡ false
     good-read = sym hb ∙ e
 
-    pub empty_read : q.head ≡ q.tail → Empty ≡ read_out_of (queue_of xs q)
+    pub empty_read : q.head ≡ q.tail → Ok None ≡ read_out_of (queue_of xs q)
     unfolding read_out_of
     empty_read t = rw (good-read, eq-eqb q.head q.tail t)
 
     pub empty_state : q.head ≡ q.tail → q ≡ (after_read_out (queue_of xs q)).state
-    empty_state t = by_read q Empty (empty_read t) refl
+    empty_state t = by_read q (Ok None) (empty_read t) refl
 
-    pub handed-read : (r : FaultRecord) → (q.head ≡ q.tail → ⊥) → r ≡ record_at xs q.head → Handed r ≡ read_out_of (queue_of xs q)
+    pub handed-read : (r : FaultRecord) → (q.head ≡ q.tail → ⊥) → r ≡ record_at xs q.head → Ok (Some r) ≡ read_out_of (queue_of xs q)
     unfolding read_out_of
     handed-read r t h = rw (good-read, ne_eqb q.head q.tail t, h)
 
     pub handed-state : (next : ℕ) → (q.head ≡ q.tail → ⊥) → next ≡ following (length xs / 32) q.head
         → record { head = next; tail = q.tail; overflow = q.overflow } ≡ (after_read_out (queue_of xs q)).state
-    handed-state next t n = by_read _ (Handed (record_at xs q.head)) (handed-read _ t refl) (rw n)
+    handed-state next t n = by_read _ (Ok (Some (record_at xs q.head))) (handed-read _ t refl) (rw n)
 
 pub ruleset read_ways = (head-below, head-whole, good-read, refused-read, refused-state, empty_read, empty_state, handed-read, handed-state)

@@ -21,10 +21,10 @@ next-put n p xs v ys l e =
     rw (e, take_at p (drop n xs) n l, drop_at p (drop n xs) n l, drop-drop 8 n xs) (sym (append_assoc p (eight v) (drop (n + 8) xs)))
 
 -- four of them in a slot
-pub four-put : (xs : List ℕ) (r : FaultRecord) (a b c d : List ℕ) → length xs ≡ 32 → a ≡ eight r.transaction → b ≡ eight r.custom → c ≡ eight r.iotval → d ≡ eight r.iotval2
+pub four_put : (xs : List ℕ) (r : FaultRecord) (a b c d : List ℕ) → length xs ≡ 32 → a ≡ eight r.transaction → b ≡ eight r.custom → c ≡ eight r.iotval → d ≡ eight r.iotval2
     → put_mid 24 8 (put_mid 16 8 (put_mid 8 8 (a ++ post_of 0 8 xs) b) c) d ≡ record_bytes r
 unfolding record_bytes
-four-put xs r a b c d l ea eb ec ed =
+four_put xs r a b c d l ea eb ec ed =
     let t = eight r.transaction in
     let s = t ++ eight r.custom in
     let u = s ++ eight r.iotval in

@@ -1,13 +1,13 @@
 -- A queue of fault records in a lent buffer (02, Req 04; the IOMMU specification's queue chapter).
-use Rattle.std.specs.Prelude.{ℕ, ◌+◌, ◌*◌, ◌/◌, ◌%◌, Bool, true, false, not, ◌&&◌, ◌||◌, List, [], ◌∷◌, ◌++◌, ◌≡◌, eqb, leb, length, replicate, take, drop}
+use Rattle.std.specs.Prelude.{ℕ, ◌+◌, ◌*◌, ◌/◌, ◌%◌, Bool, true, false, not, ◌&&◌, ◌||◌, List, [], ◌∷◌, ◌++◌, ◌≡◌, eqb, leb, length, replicate, take, drop, Option, Some, None, Result, Ok, Err}
 use Rattle.std.specs.Int.Count.{ones}
 use Rattle.memory.specs.Choice.{pick}
 use Rattle.memory.specs.Code.{eight}
 use Rattle.memory.specs.Window.{doubleword}
 use Rattle.fault_queue.specs.declared.QueueState.{QueueState}
 use Rattle.fault_queue.specs.declared.FaultRecord.{FaultRecord}
-use Rattle.fault_queue.specs.declared.ReadOut.{ReadOut}
-use Rattle.fault_queue.specs.declared.ReadOut.TheVariants.{Handed, Empty, Refused}
+use Rattle.refusal.specs.declared.Refusal.{Refusal}
+use Rattle.refusal.specs.declared.Refusal.TheVariants.{BadQueue}
 
 -- the lent bytes, and where the queue stands
 pub record Queue : Type 0 where
@@ -94,20 +94,20 @@ pub record Lodges (qu : Queue) (bytes : List ℕ) (at : QueueState) : Type 0 whe
   pub of_state : at ≡ qu.state
 
 -- "Reading out hands over the oldest record .. or none"; "Refuse .. a read-out with 2013"
-unfoldable pub read_out_of : Queue → ReadOut
+unfoldable pub read_out_of : Queue → Result (Option FaultRecord) Refusal
 unfolding bad_queue
 read_out_of qu =
-    pick (bad_queue (length qu.bytes) qu.state) (Refused 2013)
-    (pick (is_empty qu.state) Empty (Handed (record_at qu.bytes qu.state.head)))
+    pick (bad_queue (length qu.bytes) qu.state) (Err BadQueue)
+    (pick (is_empty qu.state) (Ok None) (Ok (Some (record_at qu.bytes qu.state.head))))
 
 -- "moving only the head": it goes on by one where a record is handed over
 abbrev pub head_moved : ℕ → QueueState → QueueState
 head_moved slots q = record { head = following slots q.head; tail = q.tail; overflow = q.overflow }
 
-abbrev pub moved_by : ReadOut → Queue → Queue
-moved_by (Handed r) qu = queue_of qu.bytes (head_moved (slots_of (length qu.bytes)) qu.state)
-moved_by Empty qu = qu
-moved_by (Refused n) qu = qu
+abbrev pub moved_by : Result (Option FaultRecord) Refusal → Queue → Queue
+moved_by (Ok (Some r)) qu = queue_of qu.bytes (head_moved (slots_of (length qu.bytes)) qu.state)
+moved_by (Ok None) qu = qu
+moved_by (Err refusal) qu = qu
 
 unfoldable pub after_read_out : Queue → Queue
 unfolding read_out_of

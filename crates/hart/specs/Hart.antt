@@ -1,5 +1,7 @@
 -- A hart in direct delivery, after document 002, sections 4.1.5.16.1 and 4.1.8.
-use Rattle.std.specs.Prelude.{ℕ, ◌+◌, ◌*◌, ◌/◌, ◌%◌, ◌^◌, Bool, false, ◌||◌, eqb, ltb}
+use Rattle.std.specs.Prelude.{ℕ, ◌+◌, ◌*◌, ◌/◌, ◌%◌, ◌^◌, Bool, false, ◌||◌, eqb, ltb, Result, Ok, Err}
+use Rattle.refusal.specs.declared.Refusal.{Refusal}
+use Rattle.refusal.specs.declared.Refusal.TheVariants.{NotInDomain}
 use Rattle.memory.specs.Bits.{bit, bits}
 use Rattle.memory.specs.Choice.{pick}
 use Rattle.register.specs.declared.HartRegister.{HartRegister}
@@ -13,6 +15,10 @@ resting = record { delivery = false; force = false; threshold = 0 }
 -- "direct delivery for harts 0 to 15 .. a call given such a hart number is refused with 2014" (02)
 unfoldable pub hart_refusal : ℕ → ℕ
 hart_refusal h = pick (ltb h 16) 0 2014
+
+-- a, or the refusal of a number that the domain doesn't have, whose number is 2014
+abbrev pub in_domain : {A : Type 0} → Bool → A → Result A Refusal
+in_domain has a = pick has (Ok a) (Err NotInDomain)
 
 -- ---- a write of v to a register of the record
 -- "Writes keep bits 7:0 of priorities and thresholds, bit 0 of delivery and force" (02); "Writes to topi are ignored" (4.1.8.1.4)

@@ -1,14 +1,14 @@
 // A hart's delivery record, and the keys by which its top interrupt is found.
 #![tactic(auto)]
 
-ghost use Rattle.std.specs.Prelude.{◌≡◌, ◌<◌, ◌≤◌};
-ghost use Rattle.word.specs.Word.{digit};
-ghost use Rattle.hart.specs.Hart.{wrote_of, unforced as unforced_of, top_word, hart_refusal};
+ghost use Rattle.std.specs.Prelude.{◌≡◌, ◌<◌, ltb};
+ghost use Rattle.hart.specs.Hart.{wrote_of, unforced as unforced_of, top_word, in_domain};
 ghost use Rattle.hart.specs.Kept.{record_of, kept_of, limit_of, better_of};
 
+use refusal::Refusal;
 use register::HartRegister;
 
-#[derive(Clone, Copy)]
+#[derive(Clone, Copy, Debug, PartialEq, Eq)]
 pub struct Hart {
     pub delivery: bool,
     pub force: bool,
@@ -16,77 +16,83 @@ pub struct Hart {
 }
 
 // A record as it is kept: bit 0 delivery, bit 1 force, bits 15:8 threshold.
-pub fn record_of(w: u32) -> Hart
-    ensures { result ≡ record_of w }
-{
-    Hart {
-        delivery: w % 2 == 1,
-        force: w / 2 % 2 == 1,
-        threshold: w / 256 % 256,
+#[tactic(auto, using(crate::proofs::Records::keeping))]
+impl From<u32> for Hart {
+    ghost from_gives = { λ w x. x ≡ record_of w };
+
+    fn from(w: u32) -> Hart {
+        Hart {
+            delivery: w % 2 == 1,
+            force: w / 2 % 2 == 1,
+            threshold: w / 256 % 256,
+        }
     }
 }
 
-pub fn kept(x: Hart) -> u32
-    ensures { result ≡ kept_of x }
-{
-    flag(x.delivery) + flag(x.force) * 2 + x.threshold % 256 * 256
-}
+#[tactic(auto, using(crate::proofs::Records::keeping))]
+impl From<Hart> for u32 {
+    ghost from_gives = { λ x w. w ≡ kept_of x };
 
-// A record after a write of one of its registers.
-pub fn wrote(x: Hart, k: HartRegister, v: u32) -> Hart
-    ensures { result ≡ wrote_of k v x }
-{
-    match k {
-        HartRegister::IDelivery => Hart {
-            delivery: v % 2 == 1,
-            force: x.force,
-            threshold: x.threshold,
-        },
-        HartRegister::IForce => Hart {
-            delivery: x.delivery,
-            force: v % 2 == 1,
-            threshold: x.threshold,
-        },
-        HartRegister::IThreshold => Hart {
-            delivery: x.delivery,
-            force: x.force,
-            threshold: v % 256,
-        },
-        HartRegister::TopI => x,
+    fn from(x: Hart) -> u32 {
+        u32::from(x.delivery) + u32::from(x.force) * 2 + x.threshold % 256 * 256
     }
 }
 
-// A record after a claim of nothing.
-pub fn unforced(x: Hart) -> Hart
-    ensures { result ≡ unforced_of x }
-{
-    Hart {
-        delivery: x.delivery,
-        force: false,
-        threshold: x.threshold,
+impl Hart {
+    // After a write of one of its registers.
+    #[tactic(auto, using(crate::proofs::Records::written))]
+    pub fn wrote(self, k: HartRegister, v: u32) -> Hart
+        ensures { result ≡ wrote_of k v self }
+    {
+        match k {
+            HartRegister::IDelivery => Hart {
+                delivery: v % 2 == 1,
+                ..self
+            },
+            HartRegister::IForce => Hart {
+                force: v % 2 == 1,
+                ..self
+            },
+            HartRegister::IThreshold => Hart {
+                threshold: v % 256,
+                ..self
+            },
+            HartRegister::TopI => self,
+        }
+    }
+
+    // After a claim of nothing.
+    #[tactic(auto, unfolding(crate::specs::Hart::unforced))]
+    pub fn unforced(self) -> Hart
+        ensures { result ≡ unforced_of self }
+    {
+        Hart {
+            force: false,
+            ..self
+        }
     }
 }
 
-// A flag as a register tells it.
-pub fn flag(on: bool) -> u32
-    ensures { (result ≡ digit on) × (result ≤ 1) }
+// Whether a domain has a number: else its refusal.
+pub fn in_domain(has: bool) -> Result<(), Refusal>
+    ensures { result ≡ in_domain has tt }
 {
-    if on {
-        return 1;
+    if has {
+        Ok(())
+    } else {
+        Err(Refusal::NotInDomain)
     }
-    0
 }
 
-pub fn refusal(hart: u64) -> u64
-    ensures { result ≡ hart_refusal hart }
+// Harts are 0 to 15.
+pub fn refusal(hart: u64) -> Result<(), Refusal>
+    ensures { result ≡ in_domain (ltb hart 16) tt }
 {
-    if hart > 15 {
-        return 2014;
-    }
-    0
+    in_domain(hart < 16)
 }
 
 // A key that no source has and that is above those of the sources that pass the threshold, and of no other.
+#[tactic(auto, using(memory::proofs::Choices::picks), unfolding(crate::specs::Kept::limit_of))]
 pub fn limit(threshold: u32) -> u64
     ensures { result ≡ limit_of threshold }
 {
@@ -97,6 +103,7 @@ pub fn limit(threshold: u32) -> u64
 }
 
 // The lower of the lowest key so far and that of source i, if it is for this hart.
+#[tactic(auto, using(crate::proofs::Records::betters))]
 pub fn better(hart: u64, i: u64, target: u32, best: u64) -> u64
     requires { i < 64 }
     ensures { result ≡ better_of hart i target best }
@@ -111,6 +118,7 @@ pub fn better(hart: u64, i: u64, target: u32, best: u64) -> u64
 }
 
 // topi, by the lowest key.
+#[tactic(auto, using(memory::proofs::Choices::picks), unfolding(crate::specs::Hart::top_word))]
 pub fn top_word(key: u64) -> u32
     ensures { result ≡ top_word key }
 {

@@ -90,3 +90,5 @@ power_lt k = pow-lt {i = k % 8} {j = 8} (omega arith)
 module _ (xs : List ℕ) (i k m : ℕ) where
   pub byte-set : m ≡ 2 ^ k → set xs i (bit_or (get_or xs i 0) m) ≡ set xs i (with_bit k (get_or xs i 0))
   byte-set h = rw (h, or_pow)
+
+pub ruleset bit_ways = (power_lt, byte-set)

@@ -53,6 +53,8 @@ in_place start len file b hs hl h e =
     simp (eq-eqb (file % 512) 0 h)
     (e ∙ ap (λ (k : ℕ). inside start len k 1) g ∙ whole 512 8 refl start len (file / 512) 0 1 hs hl (omega arith) (omega arith) ∙ ap (λ (k : ℕ). inside start len k 512) (sym f))
 
+pub ruleset file_at_ways = (file-at)
+
 pub ruleset file_ways = (off-place, in_place)
 
 -- a part of a slice, lent and back with one element changed, is the slice with that element changed

@@ -1,5 +1,5 @@
 -- Refusal 2012, exactly when: by page numbers, and whatever 2007 says. Assumes nothing.
-use Prim.Native.Nat.{ℕ, zero, suc, ◌+◌, ◌-◌, ◌*◌, ◌/◌, ◌%◌, ◌^◌, ◌≤◌, ◌<◌}
+use Prim.Native.Nat.{ℕ, ◌+◌, ◌-◌, ◌*◌, ◌/◌, ◌%◌, ◌^◌, ◌≤◌, ◌<◌}
 use mathlib.Core.Bool.{Bool, true, false, ◌&&◌, ◌||◌, not}
 use mathlib.Core.List.{List}
 use mathlib.Core.Logic.{◌↔◌}
@@ -7,23 +7,27 @@ use mathlib.Core.Path.{◌≡◌, refl, sym, ap, ap₂, ◌∙◌}
 use native.Mathlib.Omega.{arith}
 use lib.Dec.{eqb, leb}
 use lib.ListN.{length}
+use Rattle.std.specs.Prelude.{Result, Ok, Err, None, Some}
 use borrow.Author.Tests.{eq-eqb, ne_eqb, eqb-true, le-leb, leb-true, leb-false}
-use Rattle.memory.specs.Choice.{pick, unless_refused}
+use Rattle.memory.specs.Choice.{pick}
 use Rattle.memory.specs.declared.Starts.{Starts}
-use Rattle.memory.specs.declared.Load.{Load}
-use Rattle.memory.specs.declared.Load.TheVariants.{Value, Violation}
+use Rattle.memory.specs.Load.{Load}
 use Rattle.memory.specs.Window.{inside, doubleword, lent, memory}
 use Rattle.memory.specs.Code.{Paged}
 use Rattle.memory.specs.Walk.{run}
 use Rattle.memory.proofs.Truth.{no_way, and_true}
 use Rattle.memory.proofs.Walks.{Read}
 use Rattle.interrupt_file.specs.File.{is_file}
+use Rattle.refusal.specs.declared.Refusal.{Refusal}
+use Rattle.refusal.specs.declared.Refusal.TheVariants.{BadWindows, BadDirectory, BadDevice, BadProcess, NoProcess, BadLength, FileOutside, Overlap, FileOverTables}
+use Rattle.refusal.specs.Checks.{unless_refused}
 use Rattle.iommu_refusals.specs.declared.Settings.{Settings}
 use Rattle.iommu_refusals.specs.declared.DeviceRequest.{DeviceRequest}
 use Rattle.iommu_refusals.specs.Refusals.{bad_windows, overlap, bad_directory, bad_process, absent, bad_length, is_lent_file, request_refusal}
 use Rattle.iommu_refusals.proofs.Refusals.{window_walkable}
 use Rattle.iommu_translation.specs.declared.Recording.{Recording}
 use Rattle.iommu_translation.specs.declared.Outcome.{Outcome}
+use Rattle.iommu_translation.specs.Translate.{OutcomeFound}
 use Rattle.iommu_translation.specs.declared.Outcome.TheVariants.{Recorded}
 use Rattle.iommu_translation.specs.Translate.{translate_of}
 use Rattle.iommu_translation.proofs.Placed.{Placed, recorded-placed}
@@ -31,22 +35,19 @@ use Rattle.iommu_files.specs.declared.Answer.{Answer}
 use Rattle.iommu_files.specs.declared.Answer.TheVariants.{Stored, Discarded, Refused}
 use Rattle.iommu.specs.Request.{storable, page_holds, over_tables, finish, request_of}
 
--- a refusal by its number
-number : Answer → ℕ
-number (Refused r) = r
-number (Answer.Translated a) = 0
-number (Answer.Redirected a) = 0
-number (Stored e) = 0
-number Discarded = 0
-number (Answer.Fault f) = 0
-number (Answer.Taken w) = 0
+-- an answer's refusal, and `other` where it has none
+why_of : Refusal → Answer → Refusal
+why_of other (Refused r) = r
+why_of other (Answer.Translated a) = other
+why_of other (Answer.Redirected a) = other
+why_of other (Stored e) = other
+why_of other Discarded = other
+why_of other (Answer.Fault f) = other
+why_of other (Answer.Taken w) = other
 
-same_number : (r : ℕ) {k : ℕ} → Refused r ≡ Refused k → r ≡ k
-unfolding number
-same_number r e = ap number e
-
-not_2007 : Refused 2007 ≡ Refused 2012 → ⊥
-not_2007 e = let z = same_number 2007 e in omega arith
+same_refusal : (r k : Refusal) → Refused r ≡ Refused k → r ≡ k
+unfolding why_of
+same_refusal r k e = ap (why_of r) e
 
 -- bytes that don't go beyond the end of their page are held by the page of their number, and by no other
 one-page : (file a size : ℕ) → 0 < size → a % 4096 + size ≤ 4096 → page_holds file a size ≡ eqb (file / 4096) (a / 4096)
@@ -89,7 +90,7 @@ module _ (starts : Starts) (xs ys : List ℕ) (paged : Paged starts (length xs) 
       either false = refl
 
       go : (p q : Bool) → inside starts.first (length xs) a 8 ≡ p → inside starts.second (length ys) a 8 ≡ q
-          → pick p (Value (doubleword xs (a - starts.first))) (pick q (Value (doubleword ys (a - starts.second))) Violation) ≡ Value read.0
+          → pick p (Some (doubleword xs (a - starts.first))) (pick q (Some (doubleword ys (a - starts.second))) None) ≡ Some read.0
           → is_lent_file starts (length xs) (length ys) file ≡ true
       go true q h k z =
           ap (λ (b : Bool). b || is_file starts.second (length ys) file) (in_window starts.first (length xs) file a paged.0 paged.1 hf e h)
@@ -108,71 +109,76 @@ module _ (starts : Starts) (xs ys : List ℕ) (paged : Paged starts (length xs) 
       go false true h k z = page-lent r.destination.file r.entry p.file (eqb-true (r.destination.file / 4096) (r.entry / 4096) k) p.entry_read
       go false false h k z = absurd (no_way cc)
 
--- no check before the walk has the number 2012, and where none refuses the windows are whole pages
+-- no check before the walk gives this refusal, and where none refuses the windows are whole pages
 module _ (s : Settings) (n m : ℕ) (q : DeviceRequest) where
-  not_2012 : request_refusal s n m q ≡ 2012 → ⊥
+  not_over : request_refusal s n m q ≡ Err FileOverTables → ⊥
   unfolding request_refusal
-  not_2012 e = go (bad_windows s.starts n m) (overlap s.starts n m) (bad_directory s.mode s.root) (leb (2 ^ 24) q.device) (bad_process q.process) (q.supervisor && absent q.process) (bad_length q.address q.length) e
+  not_over e = go (bad_windows s.starts n m) (overlap s.starts n m) (bad_directory s.mode s.root) (leb (2 ^ 24) q.device) (bad_process q.process) (q.supervisor && absent q.process) (bad_length q.address q.length) e
     where
-      go : (a b c d f g h : Bool) → ◌≡◌ {A = ℕ} (pick a 2001 (pick b 2011 (pick c 2002 (pick d 2003 (pick f 2004 (pick g 2005 (pick h 2006 0))))))) 2012 → ⊥
-      go true b c d f g h e = omega arith
-      go false true c d f g h e = omega arith
-      go false false true d f g h e = omega arith
-      go false false false true f g h e = omega arith
-      go false false false false true g h e = omega arith
-      go false false false false false true h e = omega arith
-      go false false false false false false true e = omega arith
-      go false false false false false false false e = omega arith
+      go : (a b c d f g h : Bool)
+          → ◌≡◌ {A = Result (Unit {0}) Refusal}
+          (pick a (Err BadWindows) (pick b (Err Overlap) (pick c (Err BadDirectory) (pick d (Err BadDevice) (pick f (Err BadProcess) (pick g (Err NoProcess) (pick h (Err BadLength) (Ok tt))))))))
+          (Err FileOverTables) → ⊥
+      go true b c d f g h e = no_way cc
+      go false true c d f g h e = no_way cc
+      go false false true d f g h e = no_way cc
+      go false false false true f g h e = no_way cc
+      go false false false false true g h e = no_way cc
+      go false false false false false true h e = no_way cc
+      go false false false false false false true e = no_way cc
+      go false false false false false false false e = no_way cc
 
-  passed-paged : request_refusal s n m q ≡ 0 → Paged s.starts n m
+  passed-paged : (u : Unit {0}) → request_refusal s n m q ≡ Ok u → Paged s.starts n m
   unfolding request_refusal
-  passed-paged e = go (bad_windows s.starts n m) (overlap s.starts n m) _ refl refl e
+  passed-paged u e = go (bad_windows s.starts n m) (overlap s.starts n m) _ refl refl e
     where
-      go : (a b : Bool) (rest : ℕ) → bad_windows s.starts n m ≡ a → overlap s.starts n m ≡ b → ◌≡◌ {A = ℕ} (pick a 2001 (pick b 2011 rest)) 0 → Paged s.starts n m
-      go true b rest h k z = absurd (omega arith)
-      go false true rest h k z = absurd (omega arith)
+      go : (a b : Bool) (rest : Result (Unit {0}) Refusal) → bad_windows s.starts n m ≡ a → overlap s.starts n m ≡ b
+          → ◌≡◌ {A = Result (Unit {0}) Refusal} (pick a (Err BadWindows) (pick b (Err Overlap) rest)) (Ok u) → Paged s.starts n m
+      go true b rest h k z = absurd (no_way cc)
+      go false true rest h k z = absurd (no_way cc)
       go false false rest h k z = (window_walkable s.starts n m false (sym h) false refl (sym k) refl).paged
 
 module _ (s : Settings) (xs ys : List ℕ) (q : DeviceRequest) (d : ℕ) where
   -- no check before the walk refuses the request, its message is to be stored, and its file is in the page of its device context or of its message entry
   pub record Over : Type 0 where
     pub recording : Recording
-    pub unrefused : request_refusal s (length xs) (length ys) q ≡ 0
-    pub named : run (memory (lent s.starts xs ys)) (translate_of s q) ≡ Recorded recording
+    pub unrefused : request_refusal s (length xs) (length ys) q ≡ Ok tt
+    pub named : run (memory (lent s.starts xs ys)) (translate_of s q) ≡ Ok (Recorded recording)
     pub storing : storable q d ≡ true
     pub over : same_page recording ≡ true
 
-  abbrev ends : Outcome → Answer
+  abbrev ends : OutcomeFound → Answer
   ends o = finish s.starts (length xs) (length ys) q d o
 
-  placed : (r : Recording) → run (memory (lent s.starts xs ys)) (translate_of s q) ≡ Recorded r → Placed (memory (lent s.starts xs ys)) r
+  placed : (r : Recording) → run (memory (lent s.starts xs ys)) (translate_of s q) ≡ Ok (Recorded r) → Placed (memory (lent s.starts xs ys)) r
   placed r e = recorded-placed (memory (lent s.starts xs ys)) s q r e
 
-  finish-over : (o : Outcome) → request_refusal s (length xs) (length ys) q ≡ 0 → run (memory (lent s.starts xs ys)) (translate_of s q) ≡ o → ends o ≡ Refused 2012 → Over
+  finish-over : (o : OutcomeFound) → request_refusal s (length xs) (length ys) q ≡ Ok tt → run (memory (lent s.starts xs ys)) (translate_of s q) ≡ o → ends o ≡ Refused FileOverTables → Over
   unfolding finish
-  finish-over (Outcome.Translated a) u h e = absurd (no_way cc)
-  finish-over (Outcome.Redirected a) u h e = absurd (no_way cc)
-  finish-over (Outcome.Fault f) u h e = absurd (no_way cc)
-  finish-over (Recorded r) u h e = go (storable q d) (is_lent_file s.starts (length xs) (length ys) r.destination.file) (over_tables r) refl refl e
+  finish-over (Ok (Outcome.Translated a)) u h e = absurd (no_way cc)
+  finish-over (Ok (Outcome.Redirected a)) u h e = absurd (no_way cc)
+  finish-over (Err f) u h e = absurd (no_way cc)
+  finish-over (Ok (Recorded r)) u h e = go (storable q d) (is_lent_file s.starts (length xs) (length ys) r.destination.file) (over_tables r) refl refl e
     where
       go : (b f v : Bool) → storable q d ≡ b → over_tables r ≡ v
-          → pick b (unless_refused (pick (not f) 2007 (pick v 2012 0)) Refused (Stored r.destination)) Discarded ≡ Refused 2012 → Over
+          → pick b (unless_refused (pick (not f) (Err FileOutside) (pick v (Err FileOverTables) (Ok tt))) Refused (Stored r.destination)) Discarded ≡ Refused FileOverTables → Over
       go true true true t o z = record { recording = r; unrefused = u; named = h; storing = t; over = sym (by_pages _ r (placed r h)) ∙ o }
       go true true false t o z = absurd (no_way cc)
-      go true false v t o z = absurd (not_2007 z)
+      go true false v t o z = absurd (no_way cc)
       go false f v t o z = absurd (no_way cc)
 
   -- THE REFUSAL: "exactly when its file lies in the 4 KiB page that holds the request's device context or its message entry"
-  pub refused_over : (request_of s xs ys q d ≡ Refused 2012) ↔ Over
+  pub refused_over : (request_of s xs ys q d ≡ Refused FileOverTables) ↔ Over
   unfolding request_of finish
   refused_over = (λ e. go (request_refusal s (length xs) (length ys) q) refl e, back)
     where
-      go : (k : ℕ) → request_refusal s (length xs) (length ys) q ≡ k → unless_refused k Refused (ends (run (memory (lent s.starts xs ys)) (translate_of s q))) ≡ Refused 2012 → Over
-      go zero h e = finish-over (run (memory (lent s.starts xs ys)) (translate_of s q)) h refl e
-      go (suc k) h e = absurd (not_2012 s (length xs) (length ys) q (h ∙ same_number (suc k) e))
+      go : (k : Result (Unit {0}) Refusal) → request_refusal s (length xs) (length ys) q ≡ k
+          → unless_refused k Refused (ends (run (memory (lent s.starts xs ys)) (translate_of s q))) ≡ Refused FileOverTables → Over
+      go (Ok tt) h e = finish-over (run (memory (lent s.starts xs ys)) (translate_of s q)) h refl e
+      go (Err k) h e = absurd (not_over s (length xs) (length ys) q (h ∙ ap Err (same_refusal k FileOverTables e)))
 
-      back : Over → request_of s xs ys q d ≡ Refused 2012
+      back : Over → request_of s xs ys q d ≡ Refused FileOverTables
       back o =
           let p = placed o.recording o.named in
-          let held = over-lent s.starts xs ys (passed-paged s (length xs) (length ys) q o.unrefused) o.recording p o.over in
+          let held = over-lent s.starts xs ys (passed-paged s (length xs) (length ys) q tt o.unrefused) o.recording p o.over in
           simp (o.unrefused, o.named, o.storing, held, by_pages _ o.recording p, o.over)

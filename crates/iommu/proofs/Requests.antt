@@ -6,17 +6,22 @@ use mathlib.Core.Path.{◌≡◌, refl, sym, ap, subst, ◌∙◌}
 use native.Mathlib.Omega.{arith}
 use lib.Dec.{eqb, leb}
 use lib.ListN.{length}
+use Rattle.std.specs.Prelude.{Result, Ok, Err}
 use borrow.Author.Tests.{eq-eqb, ne_eqb, leb-true}
 use Rattle.memory.specs.declared.Starts.{Starts}
 use Rattle.memory.specs.Window.{inside, lent, Leaves, memory}
-use Rattle.memory.specs.Choice.{pick, unless_refused}
+use Rattle.memory.specs.Choice.{pick}
 use Rattle.memory.specs.Walk.{run}
 use Rattle.causes.specs.declared.FaultInfo.{FaultInfo}
 use Rattle.interrupt_file.specs.File.{is_file, after_store}
+use Rattle.refusal.specs.declared.Refusal.{Refusal}
+use Rattle.refusal.specs.declared.Refusal.TheVariants.{FileOutside, FileOverTables}
+use Rattle.refusal.specs.Checks.{unless_refused}
 use Rattle.iommu_refusals.specs.declared.Settings.{Settings}
 use Rattle.iommu_refusals.specs.declared.DeviceRequest.{DeviceRequest}
 use Rattle.iommu_translation.specs.declared.Recording.{Recording}
 use Rattle.iommu_translation.specs.declared.Outcome.{Outcome}
+use Rattle.iommu_translation.specs.Translate.{OutcomeFound}
 use Rattle.iommu_files.specs.declared.Answer.{Answer}
 use Rattle.iommu_files.specs.declared.Answer.TheVariants.{Stored, Discarded, Refused}
 use Rattle.iommu_refusals.specs.Refusals.{is_lent_file, request_refusal}
@@ -24,7 +29,8 @@ use Rattle.iommu_translation.specs.Translate.{translate_of}
 use Rattle.causes.specs.Causes.{is_write}
 use Rattle.iommu.specs.Request.{reversed, identity_of, storable_as, over_tables, finish, stored_at, stored_by, request_of, after_request}
 use Rattle.iommu_files.proofs.Answers.{answered}
-use Rattle.iommu_refusals.proofs.Bounds.{passed, stopped, accepted-mode, accepted-root, accepted_walkable}
+use Rattle.refusal.proofs.Checks.{passed, stopped}
+use Rattle.iommu_refusals.proofs.Bounds.{accepted-mode, accepted-root, accepted_walkable}
 use Rattle.iommu.specs.Code.{stored_if}
 use Rattle.iommu_files.proofs.Files.{changed-first, changed-second, unchanged, left-same, file-is}
 
@@ -71,7 +77,7 @@ over_by r page x y e h k = rw (h, k, e)
 module _ (starts : Starts) (xs ys : List ℕ) (q : DeviceRequest) (value n : ℕ) (r : Recording) (s : Bool)
     (hn : n ≡ identity_of q value) (hs : s ≡ storable_as q n) where
   abbrev ended : Answer
-  ended = finish starts (length xs) (length ys) q value (Outcome.Recorded r)
+  ended = finish starts (length xs) (length ys) q value (Ok (Outcome.Recorded r))
 
   pub record_discards : s ≡ false → Discarded ≡ ended
   unfolding finish
@@ -81,16 +87,16 @@ module _ (starts : Starts) (xs ys : List ℕ) (q : DeviceRequest) (value n : ℕ
     abbrev held : Bool
     held = is_lent_file starts (length xs) (length ys) r.destination.file
 
-    pub record_outside : (f : Bool) → f ≡ held → f ≡ false → Refused 2007 ≡ ended
+    pub record_outside : (f : Bool) → f ≡ held → f ≡ false → Refused FileOutside ≡ ended
     unfolding finish
     record_outside f hf o = simp (← hn, ← hs, t, ← hf, o)
 
     module _ (over : Bool) (hover : over ≡ over_tables r) where
-      pub record_over : (k : ℕ) → over ≡ true → k ≡ pick held 2012 2007 → Refused k ≡ ended
+      pub record_over : (k : Refusal) → over ≡ true → k ≡ pick held FileOverTables FileOutside → Refused k ≡ ended
       unfolding finish
       record_over k o e = simp (← hn, ← hs, t, ← hover, o, e) (go held)
         where
-          go : (f : Bool) → Refused (pick f 2012 2007) ≡ unless_refused (pick (not f) 2007 2012) Refused (Stored r.destination)
+          go : (f : Bool) → Refused (pick f FileOverTables FileOutside) ≡ unless_refused (pick (not f) (Err FileOutside) (Err FileOverTables)) Refused (Stored r.destination)
           go true = refl
           go false = refl
 
@@ -139,17 +145,13 @@ told b c r h t = sym t ∙ h
 
 pub ruleset store_ways = (told, lent-first, lent-second, stored-first, stored-second, file-is)
 
--- a number that the code gives is the definition's
-pub of_number : {A : Type 0} (f : ℕ → A) {x : A} {n : ℕ} (k : ℕ) → f k ≡ x → n ≡ k → f n ≡ x
-of_number f k h e = ap f e ∙ h
-
 pub record_low : (q : DeviceRequest) (n : ℕ) (s : Bool) → s ≡ storable_as q n → s ≡ true → n < 2048
 record_low q n s h t = storable-low q n (sym h ∙ t)
 
 pub ruleset record_ways = (record_discards, record_over, record_stores, record_outside, stored-left, kept-left, unchanged, record_low)
 
 -- the whole request
-module _ (s : Settings) (xs ys : List ℕ) (q : DeviceRequest) (value r : ℕ) (hr : r ≡ request_refusal s (length xs) (length ys) q) where
+module _ (s : Settings) (xs ys : List ℕ) (q : DeviceRequest) (value : ℕ) (r : Result (Unit {0}) Refusal) (hr : r ≡ request_refusal s (length xs) (length ys) q) where
   abbrev answer : Answer
   answer = request_of s xs ys q value
 
@@ -160,51 +162,51 @@ module _ (s : Settings) (xs ys : List ℕ) (q : DeviceRequest) (value r : ℕ) (
       left-same (lent s.starts xs ys) (stored_by s.starts xs ys q value answer) xs ys (e ∙ ap (stored_by s.starts xs ys q value) h)
       (unchanged s.starts xs ys)
 
-  pub request-refused : (r ≡ 0 → ⊥) → Refused r ≡ answer
+  pub request-refused : (why : Refusal) → r ≡ Err why → Refused why ≡ answer
   unfolding request_of
-  request-refused z = stopped r _ Refused _ _ hr z refl
+  request-refused why z = stopped _ Refused _ _ why (sym hr ∙ z) refl
 
-  pub refused-bytes : (r ≡ 0 → ⊥) → Leaves (after_request s xs ys q value) xs ys
-  refused-bytes z = kept (Refused r) refl (request-refused z)
+  pub refused-bytes : (why : Refusal) → r ≡ Err why → Leaves (after_request s xs ys q value) xs ys
+  refused-bytes why z = kept (Refused why) refl (request-refused why z)
 
-  module _ (z : r ≡ 0) (o : Outcome) (ho : o ≡ run (memory (lent s.starts xs ys)) (translate_of s q)) where
-    abbrev ends : Outcome → Answer
+  module _ (u : Unit {0}) (z : r ≡ Ok u) (o : OutcomeFound) (ho : o ≡ run (memory (lent s.starts xs ys)) (translate_of s q)) where
+    abbrev ends : OutcomeFound → Answer
     ends p = finish s.starts (length xs) (length ys) q value p
 
     -- by the answer, so that whatever is done with one shows at its case
-    pub request_finishes : (p : Outcome) (a : Answer) → o ≡ p → a ≡ ends p → a ≡ answer
+    pub request_finishes : (p : OutcomeFound) (a : Answer) → o ≡ p → a ≡ ends p → a ≡ answer
     unfolding request_of
-    request_finishes p (Answer.Translated k) e h = passed _ Refused _ _ (sym hr ∙ z) (rw (← ho, e, ← h) refl)
-    request_finishes p (Answer.Redirected k) e h = passed _ Refused _ _ (sym hr ∙ z) (rw (← ho, e, ← h) refl)
-    request_finishes p (Stored n) e h = passed _ Refused _ _ (sym hr ∙ z) (rw (← ho, e, ← h) refl)
-    request_finishes p Discarded e h = passed _ Refused _ _ (sym hr ∙ z) (rw (← ho, e, ← h) refl)
-    request_finishes p (Answer.Fault k) e h = passed _ Refused _ _ (sym hr ∙ z) (rw (← ho, e, ← h) refl)
-    request_finishes p (Refused k) e h = passed _ Refused _ _ (sym hr ∙ z) (rw (← ho, e, ← h) refl)
-    request_finishes p (Answer.Taken k) e h = passed _ Refused _ _ (sym hr ∙ z) (rw (← ho, e, ← h) refl)
+    request_finishes p (Answer.Translated k) e h = passed _ Refused _ _ u (sym hr ∙ z) (rw (← ho, e, ← h) refl)
+    request_finishes p (Answer.Redirected k) e h = passed _ Refused _ _ u (sym hr ∙ z) (rw (← ho, e, ← h) refl)
+    request_finishes p (Stored n) e h = passed _ Refused _ _ u (sym hr ∙ z) (rw (← ho, e, ← h) refl)
+    request_finishes p Discarded e h = passed _ Refused _ _ u (sym hr ∙ z) (rw (← ho, e, ← h) refl)
+    request_finishes p (Answer.Fault k) e h = passed _ Refused _ _ u (sym hr ∙ z) (rw (← ho, e, ← h) refl)
+    request_finishes p (Refused k) e h = passed _ Refused _ _ u (sym hr ∙ z) (rw (← ho, e, ← h) refl)
+    request_finishes p (Answer.Taken k) e h = passed _ Refused _ _ u (sym hr ∙ z) (rw (← ho, e, ← h) refl)
 
     -- an outcome that is no message to a file passes as it is, and changes nothing
-    pub request-translates : (a : ℕ) → o ≡ Outcome.Translated a → Answer.Translated a ≡ answer
+    pub request-translates : (a : ℕ) → o ≡ Ok (Outcome.Translated a) → Answer.Translated a ≡ answer
     unfolding finish
-    request-translates a e = request_finishes (Outcome.Translated a) (Answer.Translated a) e refl
+    request-translates a e = request_finishes (Ok (Outcome.Translated a)) (Answer.Translated a) e refl
 
-    pub request-redirects : (a : ℕ) → o ≡ Outcome.Redirected a → Answer.Redirected a ≡ answer
+    pub request-redirects : (a : ℕ) → o ≡ Ok (Outcome.Redirected a) → Answer.Redirected a ≡ answer
     unfolding finish
-    request-redirects a e = request_finishes (Outcome.Redirected a) (Answer.Redirected a) e refl
+    request-redirects a e = request_finishes (Ok (Outcome.Redirected a)) (Answer.Redirected a) e refl
 
-    pub request_faults : (f : FaultInfo) → o ≡ Outcome.Fault f → Answer.Fault f ≡ answer
+    pub request_faults : (f : FaultInfo) → o ≡ Err f → Answer.Fault f ≡ answer
     unfolding finish
-    request_faults f e = request_finishes (Outcome.Fault f) (Answer.Fault f) e refl
+    request_faults f e = request_finishes (Err f) (Answer.Fault f) e refl
 
-    pub translated-bytes : (a : ℕ) → o ≡ Outcome.Translated a → Leaves (after_request s xs ys q value) xs ys
+    pub translated-bytes : (a : ℕ) → o ≡ Ok (Outcome.Translated a) → Leaves (after_request s xs ys q value) xs ys
     translated-bytes a e = kept (Answer.Translated a) refl (request-translates a e)
 
-    pub redirected-bytes : (a : ℕ) → o ≡ Outcome.Redirected a → Leaves (after_request s xs ys q value) xs ys
+    pub redirected-bytes : (a : ℕ) → o ≡ Ok (Outcome.Redirected a) → Leaves (after_request s xs ys q value) xs ys
     redirected-bytes a e = kept (Answer.Redirected a) refl (request-redirects a e)
 
-    pub faulted-bytes : (f : FaultInfo) → o ≡ Outcome.Fault f → Leaves (after_request s xs ys q value) xs ys
+    pub faulted-bytes : (f : FaultInfo) → o ≡ Err f → Leaves (after_request s xs ys q value) xs ys
     faulted-bytes f e = kept (Answer.Fault f) refl (request_faults f e)
 
-    pub request-bytes : (p : Outcome) (a : Answer) (us vs : List ℕ) → o ≡ p → a ≡ ends p
+    pub request-bytes : (p : OutcomeFound) (a : Answer) (us vs : List ℕ) → o ≡ p → a ≡ ends p
         → Leaves (stored_by s.starts xs ys q value a) us vs → Leaves (after_request s xs ys q value) us vs
     unfolding after_request
     request-bytes p a us vs e h k =

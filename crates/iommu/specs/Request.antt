@@ -1,20 +1,24 @@
 -- The whole request: the checks, the walk, and the finish; the answer, the bytes after, and the addresses read.
-use Rattle.std.specs.Prelude.{ℕ, ◌+◌, ◌*◌, ◌/◌, ◌%◌, ◌<◌, ◌≡◌, Bool, true, ◌&&◌, ◌||◌, not, List, [], ◌∷◌, eqb, leb, length}
-use Rattle.memory.specs.Choice.{pick, first_bad, unless_refused}
+use Rattle.std.specs.Prelude.{ℕ, ◌+◌, ◌*◌, ◌/◌, ◌%◌, ◌<◌, ◌≡◌, Bool, true, ◌&&◌, ◌||◌, not, List, [], ◌∷◌, eqb, leb, length, Result, Err, Ok}
+use Rattle.memory.specs.Choice.{pick}
 use Rattle.memory.specs.Bits.{bits}
 use Rattle.memory.specs.declared.Starts.{Starts}
 use Rattle.memory.specs.Window.{Window, Lent, inside, lent, holds, byte_at, memory}
 use Rattle.memory.specs.Walk.{run, trace}
 use Rattle.causes.specs.Causes.{is_write}
 use Rattle.interrupt_file.specs.File.{after_store}
+use Rattle.refusal.specs.declared.Refusal.{Refusal}
+use Rattle.refusal.specs.declared.Refusal.TheVariants.{FileOutside, FileOverTables}
+use Rattle.refusal.specs.Checks.{check, first_bad, unless_refused}
 use Rattle.iommu_refusals.specs.declared.Settings.{Settings}
 use Rattle.iommu_refusals.specs.declared.DeviceRequest.{DeviceRequest}
 use Rattle.iommu_translation.specs.declared.Recording.{Recording}
 use Rattle.iommu_translation.specs.declared.Outcome.{Outcome}
+use Rattle.iommu_translation.specs.Translate.{OutcomeFound}
 use Rattle.iommu_translation.specs.declared.Outcome.TheVariants.{Recorded}
 use Rattle.iommu_files.specs.declared.Answer.{Answer}
 use Rattle.iommu_files.specs.declared.Answer.TheVariants.{Translated, Redirected, Stored, Discarded, Fault, Refused, Taken}
-use Rattle.iommu_refusals.specs.Refusals.{check, is_lent_file, request_refusal}
+use Rattle.iommu_refusals.specs.Refusals.{is_lent_file, request_refusal}
 use Rattle.iommu_translation.specs.Translate.{translate_of}
 use Rattle.iommu_files.specs.Files.{changed_at}
 
@@ -44,15 +48,19 @@ abbrev pub over_tables : Recording → Bool
 over_tables r = page_holds r.destination.file r.context 64 || page_holds r.destination.file r.entry 16
 
 -- the checks of a store: "a storable message whose file is outside the window (last of all)"; "Refuse a store with 2012 .. This comes after 2007" (02, Req 06). n and m are the windows' lengths
-abbrev pub store_refusal : Starts → ℕ → ℕ → Recording → ℕ
-store_refusal starts n m r = first_bad (check 2007 (not (is_lent_file starts n m r.destination.file)) ∷ check 2012 (over_tables r) ∷ [])
+abbrev pub store_refusal : Starts → ℕ → ℕ → Recording → Result (Unit {0}) Refusal
+store_refusal starts n m r =
+    first_bad
+    (check FileOutside (not (is_lent_file starts n m r.destination.file))
+    ∷ check FileOverTables (over_tables r)
+    ∷ [])
 
 -- the answer from what the tables say: "other accesses under M = 1 are discarded, before 2007 is looked at"
-unfoldable pub finish : Starts → ℕ → ℕ → DeviceRequest → ℕ → Outcome → Answer
-finish starts n m q d (Outcome.Translated a) = Translated a
-finish starts n m q d (Outcome.Redirected a) = Redirected a
-finish starts n m q d (Outcome.Fault f) = Fault f
-finish starts n m q d (Recorded r) = pick (storable q d) (unless_refused (store_refusal starts n m r) Refused (Stored r.destination)) Discarded
+unfoldable pub finish : Starts → ℕ → ℕ → DeviceRequest → ℕ → OutcomeFound → Answer
+finish starts n m q d (Ok (Outcome.Translated a)) = Translated a
+finish starts n m q d (Ok (Outcome.Redirected a)) = Redirected a
+finish starts n m q d (Err f) = Fault f
+finish starts n m q d (Ok (Recorded r)) = pick (storable q d) (unless_refused (store_refusal starts n m r) Refused (Stored r.destination)) Discarded
 
 -- the answer to a request with its data value, on the bytes of both windows
 unfoldable pub request_of : Settings → List ℕ → List ℕ → DeviceRequest → ℕ → Answer

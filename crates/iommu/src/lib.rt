@@ -9,12 +9,14 @@ ghost use Rattle.interrupt_file.specs.File.{is_file, after_store};
 ghost use Rattle.iommu_files.specs.Answers.{Answered};
 ghost use Rattle.iommu.specs.Request.{reversed as reversed_of, identity_of, storable_as, over_tables, finish as finish_of, stored_by, request_of, after_request};
 ghost use Rattle.iommu_refusals.specs.Refusals.{is_lent_file};
+ghost use Rattle.refusal.specs.declared.Refusal.TheVariants.{FileOutside, FileOverTables};
 ghost use Rattle.iommu.specs.Code.{stored_if};
 
 use iommu_files::Answer;
 use iommu_refusals::{DeviceRequest, Settings};
 use iommu_translation::{Outcome, Recording};
-use memory::Starts;
+use memory::{Starts, Windows};
+use refusal::Refusal;
 
 // The four bytes of a data value reversed.
 fn reversed(value: u32) -> u64
@@ -35,6 +37,7 @@ fn identity(q: DeviceRequest, value: u32) -> u64
 }
 
 // Whether an access under MRIF mode stores its message.
+#[tactic(auto, using(crate::proofs::Requests::storable_ways))]
 fn storable(q: DeviceRequest, n: u64) -> bool
     ensures { result ≡ storable_as q n }
 {
@@ -62,7 +65,7 @@ fn store_in(start: u64, window: &mut [u8], file: u64, n: u64) -> bool
     false
 }
 
-// The same in whichever window holds it.
+// The same in whichever window holds it. Both are lent by `&mut` and stand apart, as on the face; a struct over them is still to be tried.
 fn store_lent(starts: Starts, first: &mut [u8], second: &mut [u8], file: u64, n: u64) -> bool
     requires { (n < 2048) × Walkable starts (length first.old) (length second.old) }
     ensures answer { result ≡ is_lent_file starts (length first.old) (length second.old) file }
@@ -74,11 +77,6 @@ fn store_lent(starts: Starts, first: &mut [u8], second: &mut [u8], file: u64, n:
     store_in(starts.second, second, file, n)
 }
 
-// The refusals of a store, by number: a file in neither window, and one over tables.
-const OUTSIDE: u64 = 2007;
-
-const OVER_TABLES: u64 = 2012;
-
 // Whether a file's page holds the device context or the message entry that lead to it.
 fn over_tables(r: Recording) -> bool
     ensures { result ≡ over_tables r }
@@ -88,17 +86,18 @@ fn over_tables(r: Recording) -> bool
 }
 
 // The refusal of a store over tables, which comes after that of a file in neither window.
-fn over_refusal(starts: Starts, n: u64, m: u64, file: u64) -> u64
+fn over_refusal(starts: Starts, n: u64, m: u64, file: u64) -> Refusal
     requires { Walkable starts n m }
-    ensures { result ≡ pick (is_lent_file starts n m file) 2012 2007 }
+    ensures { result ≡ pick (is_lent_file starts n m file) FileOverTables FileOutside }
 {
     if iommu_refusals::is_lent_file(starts, n, m, file) {
-        return OVER_TABLES;
+        return Refusal::FileOverTables;
     }
-    OUTSIDE
+    Refusal::FileOutside
 }
 
 // Records a message in its file, or says why not. Whether it lies over tables is asked first, since it seldom does; 2007 still comes before 2012.
+#[tactic(auto, using(crate::proofs::Requests::record_ways))]
 fn record_message(
     starts: Starts,
     first: &mut [u8],
@@ -108,25 +107,26 @@ fn record_message(
     r: Recording,
 ) -> Answer
     requires { Walkable starts (length first.old) (length second.old) }
-    ensures answer { result ≡ finish_of starts (length first.old) (length second.old) q value (Outcome.Recorded r) }
+    ensures answer { result ≡ finish_of starts (length first.old) (length second.old) q value (Ok (Outcome.Recorded r)) }
     ensures bytes { Leaves (stored_by starts first.old second.old q value result) first.new second.new }
 {
     let n = identity(q, value);
     if storable(q, n) {
         let d = r.destination;
         if over_tables(r) {
-            let number = over_refusal(starts, first.len() as u64, second.len() as u64, d.file);
-            return Answer::Refused(number);
+            let why = over_refusal(starts, first.len() as u64, second.len() as u64, d.file);
+            return Answer::Refused(why);
         }
         if store_lent(starts, first, second, d.file, n) {
             return Answer::Stored(d);
         }
-        return Answer::Refused(OUTSIDE);
+        return Answer::Refused(Refusal::FileOutside);
     }
     Answer::Discarded
 }
 
 // One request, one answer.
+#[tactic(auto, using(crate::proofs::Requests::request_ways), unfolding(crate::specs::Request::after_request))]
 pub fn request(
     s: Settings,
     first: &mut [u8],
@@ -138,23 +138,20 @@ pub fn request(
     ensures bytes { Leaves (after_request s first.old second.old q value) first.new second.new }
 {
     let starts = s.starts;
-    let number = iommu_refusals::request_refusal(s, first.len() as u64, second.len() as u64, q);
-    if number == 0 {
-        let outcome = iommu_translation::translate(s, q, first, second);
-        match outcome {
-            Outcome::Translated(a) => {
-                return Answer::Translated(a);
-            }
-            Outcome::Redirected(a) => {
-                return Answer::Redirected(a);
-            }
-            Outcome::Fault(f) => {
-                return Answer::Fault(f);
-            }
-            Outcome::Recorded(r) => {
-                return record_message(starts, first, second, q, value, r);
-            }
-        }
+    let n = first.len() as u64;
+    let m = second.len() as u64;
+    if let Err(why) = iommu_refusals::request_refusal(s, n, m, q) {
+        return Answer::Refused(why);
     }
-    Answer::Refused(number)
+    let lent = Windows {
+        starts,
+        first,
+        second,
+    };
+    match iommu_translation::translate(s, q, &lent) {
+        Ok(Outcome::Translated(a)) => Answer::Translated(a),
+        Ok(Outcome::Redirected(a)) => Answer::Redirected(a),
+        Ok(Outcome::Recorded(r)) => record_message(starts, first, second, q, value, r),
+        Err(f) => Answer::Fault(f),
+    }
 }

@@ -1,8 +1,10 @@
 -- The take of a pending interrupt or of many, and the report of a file, in whichever window holds it.
 use Rattle.std.specs.Prelude.{ℕ, Bool, List, length}
-use Rattle.memory.specs.Choice.{pick, unless_refused}
+use Rattle.memory.specs.Choice.{pick}
 use Rattle.memory.specs.declared.Starts.{Starts}
 use Rattle.memory.specs.Window.{Lent, lent, part_of}
+use Rattle.refusal.specs.Refusal.{number_of}
+use Rattle.refusal.specs.Checks.{unless_refused}
 use Rattle.interrupt_file.specs.File.{is_file, pending_of, after_take, taken_of, after_take_many}
 use Rattle.interrupt_file.specs.Report.{file_report, refused_report}
 use Rattle.interrupt_file.specs.declared.Report.{Report}
@@ -55,4 +57,5 @@ module _ (starts : Starts) (first second : List ℕ) where
 
   unfoldable pub report_of : ℕ → Report
   report_of file =
-      unless_refused (report_refusal starts (length first) (length second) file) refused_report (file_report (part_of (lent starts first second) file 512))
+      unless_refused (report_refusal starts (length first) (length second) file) (λ why. refused_report (number_of why))
+      (file_report (part_of (lent starts first second) file 512))

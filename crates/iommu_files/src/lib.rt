@@ -10,10 +10,11 @@ ghost use Rattle.iommu_files.specs.Files.{answered_at, many_taken_at, take_of, a
 
 use causes::FaultInfo;
 use interrupt_file::Report;
-use memory::Starts;
+use memory::{Starts, Windows};
 use message::Destination;
+use refusal::Refusal;
 
-// What a request or a take is answered.
+// What a request or a take is answered. Document 01 names this form, an enum whose Fault case holds a fault with its stage.
 #[derive(Clone, Copy)]
 pub enum Answer {
     Translated(u64),
@@ -21,12 +22,12 @@ pub enum Answer {
     Stored(Destination),
     Discarded,
     Fault(FaultInfo),
-    Refused(u64),
+    Refused(Refusal),
     Taken(u64),
 }
 
 // 01's form of an answer: its number and three values.
-#[derive(Clone, Copy)]
+#[derive(Clone, Copy, Debug, PartialEq, Eq)]
 pub struct Numbers {
     pub kind: u64,
     pub first: u64,
@@ -49,7 +50,7 @@ pub fn to_numbers(a: Answer) -> Numbers
         },
         Answer::Discarded => numbered(3, 0),
         Answer::Fault(f) => numbered(4, f.cause),
-        Answer::Refused(r) => numbered(5, r),
+        Answer::Refused(r) => numbered(5, r.number()),
         Answer::Taken(w) => numbered(6, w),
     }
 }
@@ -85,6 +86,7 @@ fn take_lent(
 }
 
 // Takes the pending interrupts of a doubleword of a file that are in a mask: bit k of doubleword d is identity 64 d + k. Inlined in each caller: with two of them the compiler would keep it as a function, and a take of one would be slower.
+#[tactic(auto, using(crate::proofs::Files::many_ways))]
 #[inline(always)]
 pub fn take_many(
     starts: Starts,
@@ -99,12 +101,10 @@ pub fn take_many(
 {
     let n = first.len() as u64;
     let m = second.len() as u64;
-    let refusal = iommu_refusals::take_many_refusal(starts, n, m, file, d);
-    if refusal == 0 {
-        let were = take_lent(starts, first, second, file, d, mask);
-        return Answer::Taken(were);
+    if let Err(why) = iommu_refusals::take_many_refusal(starts, n, m, file, d) {
+        return Answer::Refused(why);
     }
-    Answer::Refused(refusal)
+    Answer::Taken(take_lent(starts, first, second, file, d, mask))
 }
 
 // Takes a pending interrupt of a file: one of many.
@@ -121,17 +121,19 @@ pub fn take(starts: Starts, first: &mut [u8], second: &mut [u8], file: u64, iden
 }
 
 // Reports a file: its pairs of doublewords, and how many identities are pending.
+#[tactic(auto, using(crate::proofs::Files::report_ways))]
 pub fn report<'a>(starts: Starts, first: &'a [u8], second: &'a [u8], file: u64) -> Report
     ensures { result ≡ report_of starts first.now second.now file }
 {
-    let refusal = iommu_refusals::report_refusal(
-        starts,
-        first.len() as u64,
-        second.len() as u64,
-        file,
-    );
-    if refusal == 0 {
-        return interrupt_file::file_report(memory::entry(starts, first, second, file, 512));
+    let n = first.len() as u64;
+    let m = second.len() as u64;
+    if let Err(why) = iommu_refusals::report_refusal(starts, n, m, file) {
+        return interrupt_file::refused_report(why.number());
     }
-    interrupt_file::refused_report(refusal)
+    let lent = Windows {
+        starts,
+        first,
+        second,
+    };
+    interrupt_file::file_report(lent.entry(file, 512))
 }

@@ -1,35 +1,25 @@
 -- What follows where no check refuses. Assumes nothing.
-use Prim.Native.Nat.{ℕ, zero, suc, ◌%◌, ◌<◌, ◌≤◌, ◌^◌}
+use Prim.Native.Nat.{ℕ, ◌%◌, ◌<◌, ◌≤◌, ◌^◌}
 use mathlib.Core.Bool.{Bool, true, false, ◌&&◌, ◌||◌}
 use mathlib.Core.List.{List}
-use mathlib.Core.Path.{◌≡◌, refl, sym, ap, ◌∙◌, subst}
+use mathlib.Core.Path.{◌≡◌, refl, subst}
 use native.Mathlib.Omega.{arith}
 use lib.Dec.{eqb}
 use lib.ListN.{length}
-use Rattle.memory.specs.Choice.{unless_refused}
+use Rattle.std.specs.Prelude.{Result, Ok}
 use Rattle.memory.specs.Code.{Walkable}
 use Rattle.memory.specs.declared.Starts.{Starts}
 use Rattle.memory.specs.Window.{inside, lent, part_of}
 use Rattle.memory.proofs.Loads.{part-long-first, part-long-second}
 use Rattle.interrupt_file.specs.File.{is_file}
+use Rattle.refusal.specs.declared.Refusal.{Refusal}
 use Rattle.iommu_refusals.specs.declared.Settings.{Settings}
 use Rattle.iommu_refusals.specs.Refusals.{is_lent_file}
 use Rattle.iommu_refusals.specs.Code.{Accepted, Takeable, Reportable}
 
--- what a number of the checks gives
-pub passed : {A : Type 0} (n : ℕ) (f : ℕ → A) (a x : A) → n ≡ 0 → x ≡ a → x ≡ unless_refused n f a
-passed n f a x z e = e ∙ sym (ap (λ (k : ℕ). unless_refused k f a) z)
-
-stopped-at : {A : Type 0} (n : ℕ) (f : ℕ → A) (a : A) → (n ≡ 0 → ⊥) → f n ≡ unless_refused n f a
-stopped-at zero f a h = absurd (h refl)
-stopped-at (suc n) f a h = refl
-
-pub stopped : {A : Type 0} (n m : ℕ) (f : ℕ → A) (a x : A) → n ≡ m → (n ≡ 0 → ⊥) → x ≡ f n → x ≡ unless_refused m f a
-stopped n m f a x e h k = k ∙ stopped-at n f a h ∙ ap (λ (i : ℕ). unless_refused i f a) e
-
 -- a request
-module _ (s : Settings) (n m r : ℕ) (h : Accepted s n m r) (z : r ≡ 0) where
-  all : Accepted s n m 0
+module _ (s : Settings) (n m : ℕ) (r : Result (Unit {0}) Refusal) (h : Accepted s n m r) (u : Unit {0}) (z : r ≡ Ok u) where
+  all : Accepted s n m (Ok u)
   all = subst (Accepted s n m) z h
 
   pub accepted-mode : s.mode < 5
@@ -47,7 +37,7 @@ pub in_second : (starts : Starts) (n m file : ℕ) (b : Bool) → is_lent_file s
 in_second starts n m file b h hb o = simp (← hb, o) at h
 
 -- a take
-module _ (starts : Starts) (n m file d r : ℕ) (h : Takeable starts n m file d r) (z : r ≡ 0) where
+module _ (starts : Starts) (n m file d : ℕ) (r : Result (Unit {0}) Refusal) (h : Takeable starts n m file d r) (u : Unit {0}) (z : r ≡ Ok u) where
   pub take_lent_lem : is_lent_file starts n m file ≡ true
   take_lent_lem = (subst (Takeable starts n m file d) z h).0
 
@@ -58,11 +48,12 @@ module _ (starts : Starts) (n m file d r : ℕ) (h : Takeable starts n m file d 
   take_walkable = (subst (Takeable starts n m file d) z h).2
 
 -- a report
-pub report-lent : (starts : Starts) (n m file r : ℕ) → Reportable starts n m file r → r ≡ 0 → is_lent_file starts n m file ≡ true
-report-lent starts n m file r h z = (subst (Reportable starts n m file) z h).0
+module _ (starts : Starts) (n m file : ℕ) (r : Result (Unit {0}) Refusal) (h : Reportable starts n m file r) (u : Unit {0}) (z : r ≡ Ok u) where
+  pub report-lent : is_lent_file starts n m file ≡ true
+  report-lent = (subst (Reportable starts n m file) z h).0
 
-pub report_walkable : (starts : Starts) (n m file r : ℕ) → Reportable starts n m file r → r ≡ 0 → Walkable starts n m
-report_walkable starts n m file r h z = (subst (Reportable starts n m file) z h).1
+  pub report_walkable : Walkable starts n m
+  report_walkable = (subst (Reportable starts n m file) z h).1
 
 -- the bytes of a file that is in either window
 pub file_bytes_lem : (starts : Starts) (xs ys : List ℕ) (file : ℕ) → is_lent_file starts (length xs) (length ys) file ≡ true → 512 ≤ length (part_of (lent starts xs ys) file 512)

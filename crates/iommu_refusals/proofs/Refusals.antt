@@ -1,28 +1,25 @@
 -- The checks before the walk, by the tests that the code makes. Assumes nothing.
 use Prim.Native.Nat.{ℕ, zero, suc, ◌+◌, ◌-◌, ◌/◌, ◌%◌, ◌^◌, ◌<◌, ◌≤◌}
 use mathlib.Core.Bool.{Bool, true, false, not, ◌&&◌, ◌||◌}
-use mathlib.Core.List.{[], ◌∷◌}
-use mathlib.Core.Path.{◌≡◌, refl, sym, ap, ap₂, subst, ◌∙◌}
+use mathlib.Core.Path.{◌≡◌, refl, sym, ap, ap₂, ◌∙◌}
 use native.Mathlib.Omega.{arith}
 use lib.Dec.{eqb, leb, ltb}
+use Rattle.std.specs.Prelude.{Result, Ok, Err, None, Some}
 use borrow.Author.Tests.{ne_eqb, eqb-true, eqb-false, lt-ltb, le-ltb, ltb-false, leb-true, leb-false}
-use Rattle.memory.specs.Choice.{pick, first_bad}
+use Rattle.memory.specs.Choice.{pick}
 use Rattle.memory.specs.Code.{Paged, Walkable}
 use Rattle.memory.specs.declared.Starts.{Starts}
-use Rattle.memory.proofs.Truth.{true-false}
+use Rattle.memory.proofs.Truth.{true-false, no_way}
 use Rattle.memory.proofs.Choices.{ltb-same}
-use Rattle.directory_process.specs.declared.ProcessId.{ProcessId}
-use Rattle.directory_process.specs.declared.ProcessId.TheVariants.{Absent, Given}
+use Rattle.directory_process.specs.Found.{ProcessId}
 use Rattle.interrupt_file.specs.File.{is_file}
 use Rattle.iommu_refusals.proofs.Overlap.{apart_words}
 use Rattle.iommu_refusals.specs.declared.Settings.{Settings}
 use Rattle.iommu_refusals.specs.declared.DeviceRequest.{DeviceRequest}
-use Rattle.iommu_refusals.specs.Refusals.{check, bad_window, bad_windows, overlap, is_lent_file, bad_directory, bad_process, absent, bad_length, request_refusal, take_refusal, take_many_refusal, report_refusal}
-use Rattle.iommu_refusals.specs.Code.{off_pages, too_large, window_refusal, Whole, Accepted, Takeable, Reportable}
-
--- a number that the code gives is the definition's
-pub is_number : {n r : ℕ} (k : ℕ) → k ≡ r → n ≡ k → n ≡ r
-is_number k h e = e ∙ h
+use Rattle.refusal.specs.declared.Refusal.{Refusal}
+use Rattle.refusal.specs.declared.Refusal.TheVariants.{BadWindows, BadDirectory, BadDevice, BadProcess, NoProcess, BadLength, NoFile, BadIdentity, Overlap}
+use Rattle.iommu_refusals.specs.Refusals.{bad_window, bad_windows, overlap, is_lent_file, bad_directory, bad_process, absent, bad_length, request_refusal, take_refusal, take_many_refusal, report_refusal}
+use Rattle.iommu_refusals.specs.Code.{off_pages, too_large, window_refusal}
 
 -- 2001: four tests joined, and two windows' ends
 either : (a b c d x y : Bool) → (((a || b) || c) || d) ≡ true → true ≡ ((a || (b || x)) || (c || (d || y)))
@@ -170,16 +167,16 @@ overlap-is starts n m = go (eqb n 0) (eqb m 0) refl refl
 
 -- the checks that all calls begin with
 module _ (starts : Starts) (n m : ℕ) (b : Bool) (hb : b ≡ bad_windows starts n m) where
-  pub window_2001 : b ≡ true → 2001 ≡ window_refusal starts n m
+  pub windows_bad : b ≡ true → Err BadWindows ≡ window_refusal starts n m
   unfolding window_refusal
-  window_2001 t = simp (← hb, t)
+  windows_bad t = simp (← hb, t)
 
   module _ (o : b ≡ false) (v : Bool) (hv : v ≡ overlap starts n m) where
-    pub window_2011 : v ≡ true → 2011 ≡ window_refusal starts n m
+    pub windows_overlap : v ≡ true → Err Overlap ≡ window_refusal starts n m
     unfolding window_refusal
-    window_2011 t = simp (← hb, o, ← hv, t)
+    windows_overlap t = simp (← hb, o, ← hv, t)
 
-    pub window-passes : v ≡ false → 0 ≡ window_refusal starts n m
+    pub window-passes : v ≡ false → Ok tt ≡ window_refusal starts n m
     unfolding window_refusal
     window-passes t = simp (← hb, o, ← hv, t)
 
@@ -216,32 +213,33 @@ module _ (starts : Starts) (n m : ℕ) (b : Bool) (hb : b ≡ bad_windows starts
         apart = apart_words starts n m (sym hv ∙ o);
       }
 
-pub ruleset windows_checks = (window_2001, window_2011, window-passes, first_fits, second_fits, window_walkable)
+pub ruleset windows_checks = (windows_bad, windows_overlap, window-passes, first_fits, second_fits, window_walkable)
 
--- what their number says of both
-module _ (starts : Starts) (n m w : ℕ) (hw : w ≡ window_refusal starts n m) where
-  -- a number that isn't 0 is that of any list of checks that begins with them
-  windows-first : (rest : ℕ) → (w ≡ 0 → ⊥) → w ≡ pick (bad_windows starts n m) 2001 (pick (overlap starts n m) 2011 rest)
+-- what they say of both
+module _ (starts : Starts) (n m : ℕ) (w : Result (Unit {0}) Refusal) (hw : w ≡ window_refusal starts n m) where
+  -- their refusal is that of any list of checks that begins with them
+  windows-first : (rest : Result (Unit {0}) Refusal) (r : Refusal) → w ≡ Err r
+      → Err r ≡ pick (bad_windows starts n m) (Err BadWindows) (pick (overlap starts n m) (Err Overlap) rest)
   unfolding window_refusal
-  windows-first rest z = go (bad_windows starts n m) (overlap starts n m) hw
+  windows-first rest r z = go (bad_windows starts n m) (overlap starts n m) (sym z ∙ hw)
     where
-      go : (p q : Bool) → w ≡ pick p 2001 (pick q 2011 0) → w ≡ pick p 2001 (pick q 2011 rest)
+      go : (p q : Bool) → ◌≡◌ {A = Result (Unit {0}) Refusal} (Err r) (pick p (Err BadWindows) (pick q (Err Overlap) (Ok tt))) → Err r ≡ pick p (Err BadWindows) (pick q (Err Overlap) rest)
       go true q e = e
       go false true e = e
-      go false false e = absurd (z e)
+      go false false e = absurd (no_way cc)
 
-  module _ (z : w ≡ 0) where
+  module _ (u : Unit {0}) (z : w ≡ Ok u) where
     windows-good : (bad_windows starts n m ≡ false) × (overlap starts n m ≡ false)
     unfolding window_refusal
     windows-good = go (bad_windows starts n m) (overlap starts n m) (sym z ∙ hw)
       where
-        go : (p q : Bool) → 0 ≡ first_bad (check 2001 p ∷ check 2011 q ∷ []) → (p ≡ false) × (q ≡ false)
-        go true q e = absurd (let k : ◌≡◌ {A = ℕ} 0 2001 = e in omega arith)
-        go false true e = absurd (let k : ◌≡◌ {A = ℕ} 0 2011 = e in omega arith)
+        go : (p q : Bool) → ◌≡◌ {A = Result (Unit {0}) Refusal} (Ok u) (pick p (Err BadWindows) (pick q (Err Overlap) (Ok tt))) → (p ≡ false) × (q ≡ false)
+        go true q e = absurd (no_way cc)
+        go false true e = absurd (no_way cc)
         go false false e = (refl, refl)
 
--- 2004 and 2006
-pub process-is : (p : ProcessId) (n : ℕ) → p ≡ Given n → leb 1048576 n ≡ bad_process p
+-- a process's number and a length
+pub process-is : (p : ProcessId) (n : ℕ) → p ≡ Some n → leb 1048576 n ≡ bad_process p
 process-is p n e = sym (ap bad_process e)
 
 pub length_none : (address len : ℕ) → len ≡ 0 → true ≡ bad_length address len
@@ -254,49 +252,45 @@ length_some address len h =
 pub ruleset small_ways = (process-is, length_none, length_some)
 
 unnamed-small : (s : Bool) (p : ProcessId) → (s && absent p) ≡ true → bad_process p ≡ false
-unnamed-small s Absent e = refl
-unnamed-small true (Given n) e = cc
-unnamed-small false (Given n) e = cc
+unnamed-small s None e = refl
+unnamed-small true (Some n) e = cc
+unnamed-small false (Some n) e = cc
 
--- a request's checks in order: `bN` is the flag of check N
-module _ (s : Settings) (n m : ℕ) (q : DeviceRequest) (w : ℕ) (hw : w ≡ window_refusal s.starts n m) where
-  pub refused-windows : (w ≡ 0 → ⊥) → w ≡ request_refusal s n m q
+-- a request's checks in order: `bN` is the flag of the check whose refusal has the number 2000 + N
+module _ (s : Settings) (n m : ℕ) (q : DeviceRequest) (w : Result (Unit {0}) Refusal) (hw : w ≡ window_refusal s.starts n m) where
+  pub refused-windows : (r : Refusal) → w ≡ Err r → Err r ≡ request_refusal s n m q
   unfolding request_refusal
-  refused-windows z = windows-first s.starts n m w hw _ z
+  refused-windows r z = windows-first s.starts n m w hw _ r z
 
-  module _ (z : w ≡ 0) (b2 : Bool) (h2 : b2 ≡ bad_directory s.mode s.root) where
-    pub refused_2002 : b2 ≡ true → 2002 ≡ request_refusal s n m q
+  module _ (u : Unit {0}) (z : w ≡ Ok u) (b2 : Bool) (h2 : b2 ≡ bad_directory s.mode s.root) where
+    pub refused_directory : b2 ≡ true → Err BadDirectory ≡ request_refusal s n m q
     unfolding request_refusal
-    refused_2002 t = let good = windows-good s.starts n m w hw z in simp (good.0, good.1, ← h2, t)
+    refused_directory t = let good = windows-good s.starts n m w hw u z in simp (good.0, good.1, ← h2, t)
 
     module _ (o2 : b2 ≡ false) (b3 : Bool) (h3 : b3 ≡ leb (2 ^ 24) q.device) where
-      pub refused_2003 : b3 ≡ true → 2003 ≡ request_refusal s n m q
+      pub refused_device : b3 ≡ true → Err BadDevice ≡ request_refusal s n m q
       unfolding request_refusal
-      refused_2003 t = let good = windows-good s.starts n m w hw z in simp (good.0, good.1, ← h2, o2, ← h3, t)
+      refused_device t = let good = windows-good s.starts n m w hw u z in simp (good.0, good.1, ← h2, o2, ← h3, t)
 
       module _ (o3 : b3 ≡ false) where
         -- a process that is absent isn't one whose number is too large
-        pub refused_2005 : (b5 : Bool) → b5 ≡ (q.supervisor && absent q.process) → b5 ≡ true → 2005 ≡ request_refusal s n m q
+        pub refused_unnamed : (b5 : Bool) → b5 ≡ (q.supervisor && absent q.process) → b5 ≡ true → Err NoProcess ≡ request_refusal s n m q
         unfolding request_refusal
-        refused_2005 b5 h5 t = let good = windows-good s.starts n m w hw z in simp (good.0, good.1, ← h2, o2, ← h3, o3, unnamed-small q.supervisor q.process (sym h5 ∙ t), ← h5, t)
+        refused_unnamed b5 h5 t = let good = windows-good s.starts n m w hw u z in simp (good.0, good.1, ← h2, o2, ← h3, o3, unnamed-small q.supervisor q.process (sym h5 ∙ t), ← h5, t)
 
         module _ (b4 : Bool) (h4 : b4 ≡ bad_process q.process) where
-          pub refused_2004 : b4 ≡ true → 2004 ≡ request_refusal s n m q
+          pub refused_process : b4 ≡ true → Err BadProcess ≡ request_refusal s n m q
           unfolding request_refusal
-          refused_2004 t = let good = windows-good s.starts n m w hw z in simp (good.0, good.1, ← h2, o2, ← h3, o3, ← h4, t)
+          refused_process t = let good = windows-good s.starts n m w hw u z in simp (good.0, good.1, ← h2, o2, ← h3, o3, ← h4, t)
 
           module _ (o4 : b4 ≡ false) (b5 : Bool) (h5 : b5 ≡ (q.supervisor && absent q.process)) (o5 : b5 ≡ false) (b6 : Bool) (h6 : b6 ≡ bad_length q.address q.length) where
-            pub refused_2006 : b6 ≡ true → 2006 ≡ request_refusal s n m q
+            pub refused_length : b6 ≡ true → Err BadLength ≡ request_refusal s n m q
             unfolding request_refusal
-            refused_2006 t = let good = windows-good s.starts n m w hw z in simp (good.0, good.1, ← h2, o2, ← h3, o3, ← h4, o4, ← h5, o5, ← h6, t)
+            refused_length t = let good = windows-good s.starts n m w hw u z in simp (good.0, good.1, ← h2, o2, ← h3, o3, ← h4, o4, ← h5, o5, ← h6, t)
 
-            pub not-refused : b6 ≡ false → 0 ≡ request_refusal s n m q
+            pub not-refused : b6 ≡ false → Ok tt ≡ request_refusal s n m q
             unfolding request_refusal
-            not-refused o6 = let good = windows-good s.starts n m w hw z in simp (good.0, good.1, ← h2, o2, ← h3, o3, ← h4, o4, ← h5, o5, ← h6, o6)
-
-module _ (s : Settings) (n m w : ℕ) (h : Whole s.starts n m w) (z : w ≡ 0) where
-  pub request_walkable : Walkable s.starts n m
-  request_walkable = subst (Whole s.starts n m) z h
+            not-refused o6 = let good = windows-good s.starts n m w hw u z in simp (good.0, good.1, ← h2, o2, ← h3, o3, ← h4, o4, ← h5, o5, ← h6, o6)
 
 accepted : (s : Settings) (b : Bool) → b ≡ bad_directory s.mode s.root → b ≡ false → (s.mode < 5) × (s.root < 2 ^ 44)
 accepted s b h o = go (ltb 4 s.mode) (leb (2 ^ 44) s.root) refl refl (sym h ∙ o)
@@ -312,45 +306,42 @@ checked_mode s b h o = (accepted s b h o).0
 pub checked_root : (s : Settings) (b : Bool) → b ≡ bad_directory s.mode s.root → b ≡ false → s.root < 2 ^ 44
 checked_root s b h o = (accepted s b h o).1
 
-pub unaccepted : (s : Settings) (n m w : ℕ) → (w ≡ 0 → ⊥) → Accepted s n m w
-unaccepted s n m zero z = absurd (z refl)
-unaccepted s n m (suc w) z = tt
+pub ruleset request_checks =
+    (refused_directory, refused_device, refused_process, refused_unnamed, refused_length, not-refused, checked_mode, checked_root)
 
-pub ruleset request_checks = (refused-windows, unaccepted, request_walkable, refused_2002, refused_2003, refused_2004, refused_2005, refused_2006, not-refused, checked_mode, checked_root)
-
-pub files_walkable : (starts : Starts) (n m w : ℕ) → Whole starts n m w → w ≡ 0 → Walkable starts n m
-files_walkable starts n m w h z = subst (Whole starts n m) z h
-
--- a take's and a report's checks in order
-module _ (starts : Starts) (n m file d w : ℕ) (hw : w ≡ window_refusal starts n m) where
-  pub take_windows : (w ≡ 0 → ⊥) → w ≡ take_many_refusal starts n m file d
+-- a take's checks in order
+module _ (starts : Starts) (n m file d : ℕ) (w : Result (Unit {0}) Refusal) (hw : w ≡ window_refusal starts n m) where
+  pub take_windows : (r : Refusal) → w ≡ Err r → Err r ≡ take_many_refusal starts n m file d
   unfolding take_many_refusal
-  take_windows z = windows-first starts n m w hw _ z
+  take_windows r z = windows-first starts n m w hw _ r z
 
-  pub report-windows : (w ≡ 0 → ⊥) → w ≡ report_refusal starts n m file
+  module _ (u : Unit {0}) (z : w ≡ Ok u) (f : Bool) (hf : f ≡ is_lent_file starts n m file) where
+    pub take_no_file : f ≡ false → Err NoFile ≡ take_many_refusal starts n m file d
+    unfolding take_many_refusal
+    take_no_file t = let good = windows-good starts n m w hw u z in simp (good.0, good.1, ← hf, t)
+
+    pub take_identity : f ≡ true → 31 < d → Err BadIdentity ≡ take_many_refusal starts n m file d
+    unfolding take_many_refusal
+    take_identity t k = let good = windows-good starts n m w hw u z in simp (good.0, good.1, ← hf, t, lt-ltb 31 d k)
+
+    pub take-passes : f ≡ true → d ≤ 31 → Ok tt ≡ take_many_refusal starts n m file d
+    unfolding take_many_refusal
+    take-passes t k = let good = windows-good starts n m w hw u z in simp (good.0, good.1, ← hf, t, le-ltb 31 d k)
+
+-- a report's
+module _ (starts : Starts) (n m file : ℕ) (w : Result (Unit {0}) Refusal) (hw : w ≡ window_refusal starts n m) where
+  pub report-windows : (r : Refusal) → w ≡ Err r → Err r ≡ report_refusal starts n m file
   unfolding report_refusal
-  report-windows z = windows-first starts n m w hw _ z
+  report-windows r z = windows-first starts n m w hw _ r z
 
-  module _ (z : w ≡ 0) (f : Bool) (hf : f ≡ is_lent_file starts n m file) where
-    pub take_2008 : f ≡ false → 2008 ≡ take_many_refusal starts n m file d
-    unfolding take_many_refusal
-    take_2008 t = let good = windows-good starts n m w hw z in simp (good.0, good.1, ← hf, t)
-
-    pub take_2009 : f ≡ true → 31 < d → 2009 ≡ take_many_refusal starts n m file d
-    unfolding take_many_refusal
-    take_2009 t k = let good = windows-good starts n m w hw z in simp (good.0, good.1, ← hf, t, lt-ltb 31 d k)
-
-    pub take-passes : f ≡ true → d ≤ 31 → 0 ≡ take_many_refusal starts n m file d
-    unfolding take_many_refusal
-    take-passes t k = let good = windows-good starts n m w hw z in simp (good.0, good.1, ← hf, t, le-ltb 31 d k)
-
-    pub report_2008 : f ≡ false → 2008 ≡ report_refusal starts n m file
+  module _ (u : Unit {0}) (z : w ≡ Ok u) (f : Bool) (hf : f ≡ is_lent_file starts n m file) where
+    pub report_no_file : f ≡ false → Err NoFile ≡ report_refusal starts n m file
     unfolding report_refusal
-    report_2008 t = let good = windows-good starts n m w hw z in simp (good.0, good.1, ← hf, t)
+    report_no_file t = let good = windows-good starts n m w hw u z in simp (good.0, good.1, ← hf, t)
 
-    pub report-passes : f ≡ true → 0 ≡ report_refusal starts n m file
+    pub report-passes : f ≡ true → Ok tt ≡ report_refusal starts n m file
     unfolding report_refusal
-    report-passes t = let good = windows-good starts n m w hw z in simp (good.0, good.1, ← hf, t)
+    report-passes t = let good = windows-good starts n m w hw u z in simp (good.0, good.1, ← hf, t)
 
 pub is-a-file : (starts : Starts) (n m file : ℕ) (f : Bool) → f ≡ is_lent_file starts n m file → f ≡ true → is_lent_file starts n m file ≡ true
 is-a-file starts n m file f h t = sym h ∙ t
@@ -373,13 +364,5 @@ module _ (starts : Starts) (n m file : ℕ) (a : Bool) (ha : a ≡ is_file start
 
 pub ruleset lent-file_ways = (file-first, file-second)
 
-pub untakeable : (starts : Starts) (n m file d w : ℕ) → (w ≡ 0 → ⊥) → Takeable starts n m file d w
-untakeable starts n m file d zero z = absurd (z refl)
-untakeable starts n m file d (suc w) z = tt
-
-pub unreportable : (starts : Starts) (n m file w : ℕ) → (w ≡ 0 → ⊥) → Reportable starts n m file w
-unreportable starts n m file zero z = absurd (z refl)
-unreportable starts n m file (suc w) z = tt
-
 pub ruleset file_checks =
-    (untakeable, unreportable, files_walkable, take_windows, take_2008, take_2009, take-passes, report-windows, report_2008, report-passes, is-a-file, is-doubleword)
+    (take_no_file, take_identity, take-passes, report_no_file, report-passes, is-a-file, is-doubleword)

@@ -1,10 +1,12 @@
 -- Nothing here has to be believed: the windows' checks as the code makes them, and what a caller may rely on once no check refuses.
-use Rattle.std.specs.Prelude.{ℕ, zero, suc, ◌%◌, ◌<◌, ◌^◌, Bool, true, not, ◌||◌, [], ◌∷◌, ◌≡◌, eqb, leb}
-use Rattle.memory.specs.Choice.{first_bad}
+use Rattle.std.specs.Prelude.{ℕ, ◌%◌, ◌<◌, ◌^◌, Bool, true, not, ◌||◌, [], ◌∷◌, ◌≡◌, eqb, leb, Result, OnOk}
 use Rattle.memory.specs.Code.{Walkable}
 use Rattle.memory.specs.declared.Starts.{Starts}
 use Rattle.iommu_refusals.specs.declared.Settings.{Settings}
-use Rattle.iommu_refusals.specs.Refusals.{check, bad_windows, overlap, is_lent_file}
+use Rattle.refusal.specs.declared.Refusal.{Refusal}
+use Rattle.refusal.specs.declared.Refusal.TheVariants.{BadWindows, Overlap}
+use Rattle.refusal.specs.Checks.{check, first_bad}
+use Rattle.iommu_refusals.specs.Refusals.{bad_windows, overlap, is_lent_file}
 
 abbrev pub off_pages : Starts → ℕ → ℕ → Bool
 off_pages starts n m =
@@ -15,22 +17,18 @@ abbrev pub too_large : Starts → ℕ → ℕ → Bool
 too_large starts n m = ((leb (2 ^ 57) starts.first || leb (2 ^ 57) n) || leb (2 ^ 57) starts.second) || leb (2 ^ 57) m
 
 -- the two checks that all calls begin with
-unfoldable pub window_refusal : Starts → ℕ → ℕ → ℕ
-window_refusal starts n m = first_bad (check 2001 (bad_windows starts n m) ∷ check 2011 (overlap starts n m) ∷ [])
+unfoldable pub window_refusal : Starts → ℕ → ℕ → Result (Unit {0}) Refusal
+window_refusal starts n m = first_bad (check BadWindows (bad_windows starts n m) ∷ check Overlap (overlap starts n m) ∷ [])
 
--- by the number of the refusal
-abbrev pub Whole : Starts → ℕ → ℕ → ℕ → Type 0
-Whole starts n m zero = Walkable starts n m
-Whole starts n m (suc r) = Unit {0}
+-- what a caller may rely on where no check refuses
+abbrev pub Whole : Starts → ℕ → ℕ → Result (Unit {0}) Refusal → Type 0
+Whole starts n m r = OnOk r (Walkable starts n m)
 
-abbrev pub Accepted : Settings → ℕ → ℕ → ℕ → Type 0
-Accepted s n m zero = (s.mode < 5) × (s.root < 2 ^ 44) × Walkable s.starts n m
-Accepted s n m (suc r) = Unit {0}
+abbrev pub Accepted : Settings → ℕ → ℕ → Result (Unit {0}) Refusal → Type 0
+Accepted s n m r = OnOk r ((s.mode < 5) × (s.root < 2 ^ 44) × Walkable s.starts n m)
 
-abbrev pub Takeable : Starts → ℕ → ℕ → ℕ → ℕ → ℕ → Type 0
-Takeable starts n m file d zero = (is_lent_file starts n m file ≡ true) × (d < 32) × Walkable starts n m
-Takeable starts n m file d (suc r) = Unit {0}
+abbrev pub Takeable : Starts → ℕ → ℕ → ℕ → ℕ → Result (Unit {0}) Refusal → Type 0
+Takeable starts n m file d r = OnOk r ((is_lent_file starts n m file ≡ true) × (d < 32) × Walkable starts n m)
 
-abbrev pub Reportable : Starts → ℕ → ℕ → ℕ → ℕ → Type 0
-Reportable starts n m file zero = (is_lent_file starts n m file ≡ true) × Walkable starts n m
-Reportable starts n m file (suc r) = Unit {0}
+abbrev pub Reportable : Starts → ℕ → ℕ → ℕ → Result (Unit {0}) Refusal → Type 0
+Reportable starts n m file r = OnOk r ((is_lent_file starts n m file ≡ true) × Walkable starts n m)

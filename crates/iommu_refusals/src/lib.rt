@@ -7,8 +7,8 @@ ghost use Rattle.iommu_refusals.specs.Refusals.{bad_windows, overlap, is_lent_fi
 ghost use Rattle.iommu_refusals.specs.Code.{off_pages, too_large, window_refusal, Whole, Accepted, Takeable, Reportable};
 
 use causes::Access;
-use directory_process::ProcessId;
 use memory::Starts;
+use refusal::Refusal;
 
 // Where the two windows start, and the device directory. A window's length is that of its lent bytes.
 #[derive(Clone, Copy)]
@@ -22,15 +22,18 @@ pub struct Settings {
 #[derive(Clone, Copy)]
 pub struct DeviceRequest {
     pub device: u64,
-    pub process: ProcessId,
+    pub process: Option<u64>,
     pub supervisor: bool,
     pub access: Access,
     pub address: u64,
     pub length: u64,
 }
 
-// The number that no refusal has.
-const PASSED: u64 = 0;
+// 2^56: no window goes beyond it.
+const HIGHEST_END: u64 = 72057594037927936;
+
+// 2^57: a start or a length of it is too large, and two below it have a sum that fits.
+const ALONE_TOO_LARGE: u64 = 144115188075855872;
 
 // A start or a length that is no multiple of 4,096: all four tests become one.
 fn off_pages(starts: Starts, n: u64, m: u64) -> bool
@@ -43,23 +46,24 @@ fn off_pages(starts: Starts, n: u64, m: u64) -> bool
 fn too_large(starts: Starts, n: u64, m: u64) -> bool
     ensures { result ≡ too_large starts n m }
 {
-    (144115188075855872 <= starts.first)
-        | (144115188075855872 <= n)
-        | (144115188075855872 <= starts.second)
-        | (144115188075855872 <= m)
+    (ALONE_TOO_LARGE <= starts.first)
+        | (ALONE_TOO_LARGE <= n)
+        | (ALONE_TOO_LARGE <= starts.second)
+        | (ALONE_TOO_LARGE <= m)
 }
 
-// 2001: whole pages, all below 2^56, in either window.
+// BadWindows: whole pages, all below 2^56, in either window.
+#[tactic(auto, using(crate::proofs::Refusals::window_ways))]
 fn bad_windows(starts: Starts, n: u64, m: u64) -> bool
     ensures { result ≡ bad_windows starts n m }
 {
     if off_pages(starts, n, m) | too_large(starts, n, m) {
         return true;
     }
-    (72057594037927936 < starts.first + n) | (72057594037927936 < starts.second + m)
+    (HIGHEST_END < starts.first + n) | (HIGHEST_END < starts.second + m)
 }
 
-// 2011: each starts before both end; an empty one ends where it starts.
+// Overlap: each starts before both end; an empty one ends where it starts.
 fn overlapping(starts: Starts, n: u64, m: u64) -> bool
     requires { (starts.first + n < 2 ^ 64) × (starts.second + m < 2 ^ 64) }
     ensures { result ≡ overlap starts n m }
@@ -69,17 +73,18 @@ fn overlapping(starts: Starts, n: u64, m: u64) -> bool
     (starts.first < end) & (starts.first < other) & (starts.second < end) & (starts.second < other)
 }
 
-// The number of the first check that the windows fail, or 0.
-fn window_refusal(starts: Starts, n: u64, m: u64) -> u64
+// The first check that the windows fail refuses them.
+#[tactic(auto, using(crate::proofs::Refusals::windows_checks))]
+fn window_refusal(starts: Starts, n: u64, m: u64) -> Result<(), Refusal>
     ensures { (result ≡ window_refusal starts n m) × Whole starts n m result }
 {
     if bad_windows(starts, n, m) {
-        return 2001;
+        return Err(Refusal::BadWindows);
     }
     if overlapping(starts, n, m) {
-        return 2011;
+        return Err(Refusal::Overlap);
     }
-    PASSED
+    Ok(())
 }
 
 // Whether an address is that of a file that lies in either window.
@@ -93,45 +98,38 @@ pub fn is_lent_file(starts: Starts, n: u64, m: u64, file: u64) -> bool
     interrupt_file::is_file(starts.second, m, file)
 }
 
-// 2002: a directory mode that there is, and a root page below 2^56.
+// BadDirectory: a directory mode that there is, and a root page below 2^56.
 fn bad_directory(mode: u64, root: u64) -> bool
     ensures { result ≡ bad_directory mode root }
 {
     (4 < mode) | (17592186044416 <= root)
 }
 
-// 2003.
+// BadDevice.
 fn bad_device(d: u64) -> bool
     ensures { result ≡ leb (2 ^ 24) d }
 {
     16777216 <= d
 }
 
-// 2004.
-fn bad_process(p: ProcessId) -> bool
+// BadProcess.
+fn bad_process(p: Option<u64>) -> bool
     ensures { result ≡ bad_process p }
 {
     match p {
-        ProcessId::Absent => false,
-        ProcessId::Given(n) => 1048576 <= n,
+        None => false,
+        Some(n) => 1048576 <= n,
     }
 }
 
-// 2005: supervisor without a process_id.
-fn unnamed(supervisor: bool, p: ProcessId) -> bool
+// NoProcess: supervisor without a process_id.
+fn unnamed(supervisor: bool, p: Option<u64>) -> bool
     ensures { result ≡ (supervisor && absent p) }
 {
-    if supervisor {
-        match p {
-            ProcessId::Absent => true,
-            ProcessId::Given(_) => false,
-        }
-    } else {
-        false
-    }
+    supervisor & p.is_none()
 }
 
-// 2006: nothing to access, or an access that leaves its page.
+// BadLength: nothing to access, or an access that leaves its page.
 fn bad_length(address: u64, len: u64) -> bool
     ensures { result ≡ bad_length address len }
 {
@@ -141,60 +139,53 @@ fn bad_length(address: u64, len: u64) -> bool
     4096 - address % 4096 < len
 }
 
-// The number of the first check that a request fails, or 0.
-pub fn request_refusal(s: Settings, n: u64, m: u64, q: DeviceRequest) -> u64
+// The first check that a request fails refuses it.
+pub fn request_refusal(s: Settings, n: u64, m: u64, q: DeviceRequest) -> Result<(), Refusal>
     ensures { (result ≡ request_refusal s n m q) × Accepted s n m result }
 {
-    let w = window_refusal(s.starts, n, m);
-    if w != PASSED {
-        return w;
-    }
+    window_refusal(s.starts, n, m)?;
     if bad_directory(s.mode, s.root) {
-        return 2002;
+        return Err(Refusal::BadDirectory);
     }
     if bad_device(q.device) {
-        return 2003;
+        return Err(Refusal::BadDevice);
     }
     let p = q.process;
     if bad_process(p) {
-        return 2004;
+        return Err(Refusal::BadProcess);
     }
     if unnamed(q.supervisor, p) {
-        return 2005;
+        return Err(Refusal::NoProcess);
     }
     if bad_length(q.address, q.length) {
-        return 2006;
+        return Err(Refusal::BadLength);
     }
-    PASSED
+    Ok(())
 }
 
-// The number of the first check that a take of many fails, or 0; that of one fails the same, with the doubleword of its identity.
-pub fn take_many_refusal(starts: Starts, n: u64, m: u64, file: u64, d: u64) -> u64
+// The first check that a take of many fails refuses it; that of one fails the same, with the doubleword of its identity.
+#[tactic(auto, using(crate::proofs::Refusals::file_checks))]
+pub fn take_many_refusal(starts: Starts, n: u64, m: u64, file: u64, d: u64) -> Result<(), Refusal>
     ensures { (result ≡ take_many_refusal starts n m file d) × Takeable starts n m file d result }
 {
-    let w = window_refusal(starts, n, m);
-    if w != PASSED {
-        return w;
+    window_refusal(starts, n, m)?;
+    if !is_lent_file(starts, n, m, file) {
+        return Err(Refusal::NoFile);
     }
-    if is_lent_file(starts, n, m, file) {
-        if 31 < d {
-            return 2009;
-        }
-        return PASSED;
+    if 31 < d {
+        return Err(Refusal::BadIdentity);
     }
-    2008
+    Ok(())
 }
 
-// The number of the first check that a report fails, or 0.
-pub fn report_refusal(starts: Starts, n: u64, m: u64, file: u64) -> u64
+// The first check that a report fails refuses it.
+#[tactic(auto, using(crate::proofs::Refusals::file_checks))]
+pub fn report_refusal(starts: Starts, n: u64, m: u64, file: u64) -> Result<(), Refusal>
     ensures { (result ≡ report_refusal starts n m file) × Reportable starts n m file result }
 {
-    let w = window_refusal(starts, n, m);
-    if w != PASSED {
-        return w;
+    window_refusal(starts, n, m)?;
+    if !is_lent_file(starts, n, m, file) {
+        return Err(Refusal::NoFile);
     }
-    if is_lent_file(starts, n, m, file) {
-        return PASSED;
-    }
-    2008
+    Ok(())
 }

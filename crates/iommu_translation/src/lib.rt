@@ -2,29 +2,25 @@
 #![tactic(auto)]
 
 ghost use Rattle.std.specs.Prelude.{◌≡◌, false, ◌<◌, ◌^◌, length};
-ghost use Rattle.memory.specs.Window.{lent, memory};
+ghost use Rattle.memory.specs.Window.{memory};
 ghost use Rattle.memory.specs.Walk.{run};
-ghost use Rattle.memory.specs.Code.{Walkable};
-ghost use Rattle.paging_scheme.specs.Scheme.{signed_of};
 ghost use Rattle.paging.specs.Stages.{second_stage_of};
 ghost use Rattle.paging_entry.specs.declared.Purpose.TheVariants.{SecondStage};
 ghost use Rattle.paging_entry.specs.Entry.{pages_for};
-ghost use Rattle.directory_context.specs.Code.{SoundContext};
-ghost use Rattle.iommu_translation.specs.Translate.{untranslated as untranslated_of, on_message, on_second, is_message, guest_of, stages_of, on_device, directory_of, translate_of};
+ghost use Rattle.iommu_translation.specs.Translate.{untranslated as untranslated_of, on_message, message_table, guest_of, stages_of, on_device, directory_of, translate_of};
 
 use causes::{Access, FaultInfo, Stage};
 use directory_context::DecodedContext;
-use directory_device::DeviceFound;
 use directory_entry::Tree;
-use directory_process::PageTableInfo;
 use iommu_refusals::{DeviceRequest, Settings};
-use memory::Starts;
+use memory::Windows;
 use message::{Destination, Message};
-use paging::PageTable;
-use paging_entry::{Pages, Purpose, Translation};
+use message_recognition::MessageTable;
+use paging::{FirstTable, GuestTable};
+use paging_entry::{Pages, Purpose};
 
 // A message to be recorded: where, and the addresses of the device context and of the message entry that say so.
-#[derive(Clone, Copy)]
+#[derive(Clone, Copy, Debug, PartialEq, Eq)]
 pub struct Recording {
     pub destination: Destination,
     pub context: u64,
@@ -32,22 +28,22 @@ pub struct Recording {
 }
 
 // What the tables say of a request, before the store is looked at.
-#[derive(Clone, Copy)]
+#[derive(Clone, Copy, Debug, PartialEq, Eq)]
 pub enum Outcome {
     Translated(u64),
     Redirected(u64),
     Recorded(Recording),
-    Fault(FaultInfo),
 }
 
 // An address that no stage translates.
-fn untranslated(x: Access, a: u64) -> Outcome
+#[tactic(auto, using(crate::proofs::Translation::untranslated_ways))]
+fn untranslated(x: Access, a: u64) -> Result<Outcome, FaultInfo>
     ensures { result ≡ untranslated_of x a }
 {
     if a < 72057594037927936 {
-        return Outcome::Translated(a);
+        return Ok(Outcome::Translated(a));
     }
-    Outcome::Fault(FaultInfo {
+    Err(FaultInfo {
         cause: causes::access_fault(x),
         stage: Stage::Directory,
     })
@@ -55,10 +51,9 @@ fn untranslated(x: Access, a: u64) -> Outcome
 
 // What a message entry says, with the address of the device context that led to it.
 fn on_message(context: u64, m: Message) -> Outcome
-    ensures { result ≡ on_message context m }
+    ensures { Ok result ≡ on_message context (Ok m) }
 {
     match m {
-        Message::Fault(f) => Outcome::Fault(f),
         Message::Redirect(a) => Outcome::Redirected(a),
         Message::Record(destination, entry) => Outcome::Recorded(Recording {
             destination,
@@ -68,63 +63,49 @@ fn on_message(context: u64, m: Message) -> Outcome
     }
 }
 
-fn on_second(t: Translation) -> Outcome
-    ensures { result ≡ on_second t }
+// The message table, where a guest address is one of its messages.
+#[tactic(auto, using(crate::proofs::Translation::message_ways), unfolding(crate::specs::Translate::message_table))]
+fn message_table(c: &DecodedContext, a: u64) -> Option<MessageTable>
+    ensures { result ≡ message_table c.now.messages a }
 {
-    match t {
-        Translation::Fault(f) => Outcome::Fault(f),
-        Translation::To(a) => Outcome::Translated(a),
+    let Some(t) = c.messages else {
+        return None;
+    };
+    if message_recognition::recognised(t.mask, t.pattern, a) {
+        return Some(t);
     }
-}
-
-fn is_message(c: DecodedContext, a: u64) -> bool
-    ensures { result ≡ is_message c a }
-{
-    if c.messages {
-        return message_recognition::recognised(c.mask, c.pattern, a);
-    }
-    false
+    None
 }
 
 // A guest address by the second stage: that which the request leads to.
-fn second_stage<'a>(
-    g: PageTable,
+#[tactic(auto, using(crate::proofs::Translation::second_ways))]
+fn second_stage(
+    second: Option<GuestTable>,
     x: Access,
-    starts: Starts,
-    first: &'a [u8],
-    second: &'a [u8],
+    w: &Windows,
     a: u64,
-) -> Translation
-    requires { (g.root < 2 ^ 44) × (signed_of g.scheme ≡ false) × Walkable starts (length first.now) (length second.now) }
-    ensures { result ≡ run (memory (lent starts first.now second.now)) (second_stage_of g SecondStage x a) }
+) -> Result<u64, FaultInfo>
+    ensures { result ≡ run (memory w.now) (second_stage_of second SecondStage x a) }
 {
-    if g.on {
-        let t = paging_entry::leaf_test(x, Pages::User);
-        let end = paging::guest_walk(g, t, starts, first, second, a);
-        return paging_entry::told(Purpose::SecondStage, x, end);
-    }
-    Translation::To(a)
+    let Some(g) = second else {
+        return Ok(a);
+    };
+    let t = paging_entry::leaf_test(x, Pages::User);
+    paging_entry::told(Purpose::SecondStage, x, paging::guest_walk(g, t, w, a))
 }
 
 // The guest address after the first stage: a message, or the second stage's.
-fn guest<'a>(
-    c: DecodedContext,
-    q: DeviceRequest,
-    starts: Starts,
-    first: &'a [u8],
-    second: &'a [u8],
-    a: u64,
-) -> Outcome
-    requires { SoundContext c × Walkable starts (length first.now) (length second.now) }
-    ensures { result ≡ run (memory (lent starts first.now second.now)) (guest_of c q.access a) }
+fn guest(c: &DecodedContext, q: DeviceRequest, w: &Windows, a: u64) -> Result<Outcome, FaultInfo>
+    ensures { result ≡ run (memory w.now) (guest_of c.now q.access a) }
 {
     let x = q.access;
-    if is_message(c, a) {
-        let m = message::message_of(c.page, c.mask, x, starts, first, second, a);
-        return on_message(c.address, m);
+    if let Some(t) = message_table(c, a) {
+        let m = message::message_of(t, x, w, a)?;
+        return Ok(on_message(c.address, m));
     }
-    let g = c.second;
-    on_second(second_stage(g, x, starts, first, second, a))
+    let second = c.second;
+    let place = second_stage(second, x, w, a)?;
+    Ok(Outcome::Translated(place))
 }
 
 // The first-stage pages that a request may use, with SUM.
@@ -136,104 +117,82 @@ fn pages_of(q: DeviceRequest, sum: bool) -> Pages
 }
 
 // Both stages, with the first stage's table and SUM.
-fn stages<'a>(
-    c: DecodedContext,
+fn stages(
+    c: &DecodedContext,
     q: DeviceRequest,
-    f: PageTable,
+    first: Option<FirstTable>,
     sum: bool,
-    starts: Starts,
-    first: &'a [u8],
-    second: &'a [u8],
-) -> Outcome
-    requires { (f.root < 2 ^ 44) × SoundContext c × Walkable starts (length first.now) (length second.now) }
-    ensures { result ≡ run (memory (lent starts first.now second.now)) (stages_of c q f sum) }
+    w: &Windows,
+) -> Result<Outcome, FaultInfo>
+    ensures { result ≡ run (memory w.now) (stages_of c.now q first sum) }
 {
     let x = q.access;
-    let g = c.second;
-    if f.on | g.on {
-        let pages = pages_of(q, sum);
-        let t = paging::first_stage(f, g, x, pages, starts, first, second, q.address);
-        let Translation::To(a) = t else {
-            return on_second(t);
-        };
-        return guest(c, q, starts, first, second, a);
+    if first.is_none() & c.second.is_none() {
+        return untranslated(x, q.address);
     }
-    untranslated(x, q.address)
+    let pages = pages_of(q, sum);
+    let a = paging::first_stage(first, c.second, x, pages, w, q.address)?;
+    guest(c, q, w, a)
 }
 
 // Steps 7 to 20, with the device context.
-fn with_context<'a>(
-    c: DecodedContext,
-    q: DeviceRequest,
-    starts: Starts,
-    first: &'a [u8],
-    second: &'a [u8],
-) -> Outcome
-    requires { SoundContext c × Walkable starts (length first.now) (length second.now) }
-    ensures { result ≡ run (memory (lent starts first.now second.now)) (on_device q (DeviceFound.Context c)) }
+#[tactic(auto, using(crate::proofs::Translation::info_ways))]
+fn with_context(c: &DecodedContext, q: DeviceRequest, w: &Windows) -> Result<Outcome, FaultInfo>
+    ensures { result ≡ run (memory w.now) (on_device q (Ok c.now)) }
 {
-    let p = q.process;
-    let x = q.access;
-    let info = directory_process::first_table(c, p, q.supervisor, x, starts, first, second);
-    let PageTableInfo::Use(f, sum) = info else {
-        return Outcome::Fault(info.fault());
-    };
-    stages(c, q, f, sum, starts, first, second)
+    let p = directory_process::first_table(c, q.process, q.supervisor, q.access, w)?;
+    let first: Option<FirstTable> = p.table;
+    stages(c, q, first, p.sum, w)
 }
 
 // Steps 5 to 20, with a directory.
-fn in_directory<'a>(s: Settings, q: DeviceRequest, first: &'a [u8], second: &'a [u8]) -> Outcome
-    requires { (1 < s.mode) × (s.mode < 5) × (s.root < 2 ^ 44) × Walkable s.starts (length first.now) (length second.now) }
-    ensures { result ≡ run (memory (lent s.starts first.now second.now)) (directory_of s q) }
+fn in_directory(s: Settings, q: DeviceRequest, w: &Windows) -> Result<Outcome, FaultInfo>
+    requires { (1 < s.mode) × (s.mode < 5) × (s.root < 2 ^ 44) }
+    ensures { result ≡ run (memory w.now) (directory_of s q) }
 {
     let levels = s.mode - 1;
-    let d = q.device;
-    if directory_entry::too_wide(Tree::Device, levels, d) {
-        return Outcome::Fault(causes::disallowed());
+    if directory_entry::too_wide(Tree::Device, levels, q.device) {
+        return Err(causes::disallowed());
     }
-    let found = directory_device::device_context(levels, s.root, d, s.starts, first, second);
-    let DeviceFound::Context(c) = found else {
-        return Outcome::Fault(found.fault());
-    };
-    with_context(c, q, s.starts, first, second)
+    // A match: this Rattle has no proof of `?` on a context, which holds structs with models in options.
+    match directory_device::device_context(levels, s.root, q.device, w) {
+        Ok(c) => with_context(&c, q, w),
+        Err(f) => Err(f),
+    }
 }
 
-// The same in the order in which the window that holds the directory's root comes first, since that is where walks begin.
-fn in_order<'a>(s: Settings, q: DeviceRequest, first: &'a [u8], second: &'a [u8]) -> Outcome
-    requires { (1 < s.mode) × (s.mode < 5) × (s.root < 2 ^ 44) × Walkable s.starts (length first.now) (length second.now) }
-    ensures { result ≡ run (memory (lent s.starts first.now second.now)) (directory_of s q) }
+// The same windows, that which holds an address first.
+fn ordered<'a>(w: &Windows<'a>, a: u64) -> Windows<'a>
+    ensures { memory result ≡ memory w.now }
 {
-    let starts = s.starts;
-    let mut near = first;
-    let mut far = second;
-    let mut order = starts;
-    if memory::within(starts.second, second.len() as u64, s.root * 4096, 1) {
-        near = second;
-        far = first;
-        order = memory::turned(starts);
+    if memory::within(w.starts.second, w.second.len() as u64, a, 1) {
+        return Windows {
+            starts: memory::turned(w.starts),
+            first: w.second,
+            second: w.first,
+        };
     }
-    let t = Settings {
-        starts: order,
-        mode: s.mode,
-        root: s.root,
-    };
-    in_directory(t, q, near, far)
+    Windows {
+        starts: w.starts,
+        first: w.first,
+        second: w.second,
+    }
 }
 
-// What the tables say of a request.
-pub fn translate<'a>(s: Settings, q: DeviceRequest, first: &'a [u8], second: &'a [u8]) -> Outcome
-    requires { (s.mode < 5) × (s.root < 2 ^ 44) × Walkable s.starts (length first.now) (length second.now) }
-    ensures { result ≡ run (memory (lent s.starts first.now second.now)) (translate_of s q) }
+// What the tables say of a request. Walks begin in the window that holds the directory's root.
+#[tactic(auto, using(crate::proofs::Translation::mode_ways))]
+pub fn translate(s: Settings, q: DeviceRequest, w: &Windows) -> Result<Outcome, FaultInfo>
+    requires { (s.mode < 5) × (s.root < 2 ^ 44) }
+    ensures { result ≡ run (memory w.now) (translate_of s q) }
 {
-    let x = q.access;
     if s.mode == 0 {
-        return Outcome::Fault(FaultInfo {
+        return Err(FaultInfo {
             cause: 256,
             stage: Stage::Directory,
         });
     }
     if s.mode == 1 {
-        return untranslated(x, q.address);
+        return untranslated(q.access, q.address);
     }
-    in_order(s, q, first, second)
+    in_directory(s, q, &ordered(w, s.root * 4096))
 }

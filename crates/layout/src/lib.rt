@@ -1,45 +1,53 @@
-// A small memory for the programs, the first window: a device directory of one level, files, and a message table, each a page.
+// A small memory for the programs, the first window: a device directory of one level, files, and a message table, each a page; and how a program shows an answer.
 #![tactic(auto)]
 
 ghost use Rattle.std.specs.Prelude.{◌≤◌};
 
 use causes::Access;
-use directory_process::ProcessId;
+use iommu_files::Answer;
 use iommu_refusals::{DeviceRequest, Settings};
 use memory::Starts;
+use std::fmt;
+
+// The two doublewords of an entry of the message table.
+#[derive(Clone, Copy, Debug, PartialEq, Eq)]
+pub struct TableEntry {
+    pub low: u64,
+    pub high: u64,
+}
 
 // Puts a doubleword into the window, lowest byte first.
 pub fn put(window: &mut [u8; 12288], at: usize, v: u64)
     requires { at ≤ 12280 }
 {
-    window[at] = (v % 256) as u8;
-    window[at + 1] = (v / 256 % 256) as u8;
-    window[at + 2] = (v / 65536 % 256) as u8;
-    window[at + 3] = (v / 16777216 % 256) as u8;
-    window[at + 4] = (v / 4294967296 % 256) as u8;
-    window[at + 5] = (v / 1099511627776 % 256) as u8;
-    window[at + 6] = (v / 281474976710656 % 256) as u8;
-    window[at + 7] = (v / 72057594037927936) as u8;
+    memory::put_doubleword(&mut window[at..at + 8], v);
+}
+
+// Puts the entry of a file number.
+fn put_entry(window: &mut [u8; 12288], number: usize, entry: TableEntry)
+    requires { number ≤ 255 }
+{
+    let at = 8192 + 16 * number;
+    put(window, at, entry.low);
+    put(window, at + 8, entry.high);
 }
 
 // The first context is the message context of document 01: mask 3, pattern 0x80004, first stage Bare. The table's entry is that of file number 2.
-pub fn window(first: u64, second: u64) -> [u8; 12288] {
+pub fn window(entry: TableEntry) -> [u8; 12288] {
     let mut window = [0u8; 12288];
     put(&mut window, 0, 1);
     put(&mut window, 8, 0x8000000000040000);
     put(&mut window, 32, 0x1000000000040002);
     put(&mut window, 40, 3);
     put(&mut window, 48, 0x80004);
-    put(&mut window, 8224, first);
-    put(&mut window, 8232, second);
+    put_entry(&mut window, 2, entry);
     window
 }
 
 // The same with an entry for file number 1 too.
-pub fn two_entries(first: u64, second: u64, first1: u64, second1: u64) -> [u8; 12288] {
-    let mut both = window(first, second);
-    put(&mut both, 8208, first1);
-    put(&mut both, 8216, second1);
+pub fn two_entries(second: TableEntry, first: TableEntry) -> [u8; 12288] {
+    let mut both = window(second);
+    put_entry(&mut both, 1, first);
     both
 }
 
@@ -47,14 +55,13 @@ pub fn two_entries(first: u64, second: u64, first1: u64, second1: u64) -> [u8; 1
 pub fn starts(second: u64) -> Starts {
     Starts {
         first: 0x40000000,
-        second: second,
+        second,
     }
 }
 
 pub fn settings(second: u64) -> Settings {
-    let at = starts(second);
     Settings {
-        starts: at,
+        starts: starts(second),
         mode: 2,
         root: 0x40000,
     }
@@ -64,10 +71,21 @@ pub fn settings(second: u64) -> Settings {
 pub fn ask(access: Access, address: u64, length: u64) -> DeviceRequest {
     DeviceRequest {
         device: 0,
-        process: ProcessId::Absent,
+        process: None,
         supervisor: false,
-        access: access,
-        address: address,
-        length: length,
+        access,
+        address,
+        length,
+    }
+}
+
+// An answer as the programs print it: its number and three values.
+#[derive(Clone, Copy)]
+pub struct Shown(pub Answer);
+
+impl fmt::Display for Shown {
+    fn fmt<W: fmt::Write>(&self, f: &mut fmt::Formatter<W>) -> fmt::Result {
+        let n = iommu_files::to_numbers(self.0);
+        write!(f, "{} {} {} {}", n.kind, n.first, n.second, n.third)
     }
 }

@@ -6,6 +6,7 @@ use mathlib.Core.Bool.{true, ◌&&◌}
 use mathlib.Core.List.{List, [], ◌∷◌, ◌++◌}
 use native.Mathlib.Omega.{arith}
 use lib.Dec.{eqb}
+use Rattle.std.specs.Prelude.{Ok}
 use Rattle.word.specs.Word.{contains, word_of}
 use Rattle.word.proofs.Bits.{word_ext}
 use Rattle.interrupt_file.specs.File.{taken_of}
@@ -13,15 +14,15 @@ use Rattle.message.specs.declared.Destination.{Destination}
 use Rattle.memory.specs.Window.{Lent, holds}
 use Rattle.interrupt_file.proofs.Pending.{pending_lt}
 use Rattle.iommu_refusals.specs.declared.DeviceRequest.{DeviceRequest}
-use Rattle.iommu_files.specs.declared.Answer.TheVariants.{Stored, Refused, Taken}
+use Rattle.iommu_files.specs.declared.Answer.TheVariants.{Stored, Taken}
 use Rattle.iommu_files.specs.declared.Numbers.{Numbers}
-use Rattle.iommu_files.specs.Answers.{numbers_of}
+use Rattle.iommu_files.specs.Answers.{numbers, numbers_of}
 use Rattle.iommu.specs.Operations.{Op, request, take, take_many, answer_of}
 use Rattle.ledger.specs.Places.{Side, first_window, second_window, window_of, Place, place}
 use Rattle.ledger.specs.Machine.{Asked, asks, asks_nothing, Machine, routines, left_by, history, AllGranted}
 use Rattle.ledger.specs.Ledger.{Account, store, asked_event, pending_in, account_of}
 use Rattle.ledger.specs.Sums.{Different, Places}
-use Rattle.ledger.specs.Closes.{Closes, Changes, Adds, AllCounted, Storing, take_refused, take_many_refused, notices_of, answer_at, after_at, call_at, pending_after}
+use Rattle.ledger.specs.Closes.{Closes, Changes, Adds, AllCounted, Storing, take_refused, take_many_refused, Refuses, notices_of, answer_at, after_at, call_at, pending_after}
 use Rattle.ledger.proofs.Machine.{left_append, history_append, granted_at, granted_before, mark-kept, balance-kept}
 use Rattle.ledger.proofs.Answering.{stored_iff, take-passed, take-taken, many-passed, many-taken, refused-told, many-refused-told, given, no-notice}
 use Rattle.ledger.proofs.Keeping.{Faith, Faithful, Same, Held, same-held, step_same, list_same, step-quiet, keeps}
@@ -118,7 +119,7 @@ module _ {O : Type 0} (m : Machine O) (faith : Faithful m) (l : Lent) where
     unfolding taken_of
     marked p d mask h ld = word_ext 64 _ _ (λ k l. ap (λ (x : ℕ). contains mask k && eqb x 1) (mark-is before so_far p (64 * d + k) h (omega arith)))
 
-    many-here : (p : Place) (d mask : ℕ) → m.asked o ≡ asks (take_many p.file d mask) → take_many_refused l p.file d ≡ 0 → Held p l
+    many-here : (p : Place) (d mask : ℕ) → m.asked o ≡ asks (take_many p.file d mask) → take_many_refused l p.file d ≡ Ok tt → Held p l
         → answer_at m l before o ≡ numbers_of (Taken (word_of 64 (λ k. contains mask k && eqb (a before p (64 * d + k)).mark 1)))
     many-here p d mask e z h =
         let y = many_still_refused p.file d ∙ z in
@@ -127,7 +128,7 @@ module _ {O : Type 0} (m : Machine O) (faith : Faithful m) (l : Lent) where
         answered (take_many p.file d mask) e ∙ ap numbers_of (many-taken here p.file d mask y)
         ∙ ap (λ (w : ℕ). numbers_of (Taken w)) (v ∙ marked p d mask h t.2)
 
-    taken_here : (p : Place) (n : ℕ) → m.asked o ≡ asks (take p.file n) → take_refused l p.file n ≡ 0 → Held p l
+    taken_here : (p : Place) (n : ℕ) → m.asked o ≡ asks (take p.file n) → take_refused l p.file n ≡ Ok tt → Held p l
         → (answer_at m l before o ≡ numbers_of (Taken (a before p n).mark)) × ((a before p n).mark < 2)
     taken_here p n e z h =
         let y = still_refused p.file n ∙ z in
@@ -139,20 +140,20 @@ module _ {O : Type 0} (m : Machine O) (faith : Faithful m) (l : Lent) where
         )
 
     refused-here : (file n r : ℕ) → m.asked o ≡ asks (take file n)
-        → (answer_at m l before o ≡ numbers_of (Refused r)) ↔ ((take_refused l file n ≡ r) × (r ≡ 0 → ⊥))
+        → (answer_at m l before o ≡ numbers 5 r 0 0) ↔ Refuses (take_refused l file n) r
     refused-here file n r e =
         let i = refused-told here file n r in
         let w = answered (take file n) e in
         let s = still_refused file n in
-        (λ h. let k = i.0 (sym w ∙ h) in (sym s ∙ k.0, k.1), λ k. w ∙ i.1 (s ∙ k.0, k.1))
+        (λ h. let k = i.0 (sym w ∙ h) in (k.0, sym s ∙ k.1, k.2), λ k. w ∙ i.1 (k.0, s ∙ k.1, k.2))
 
     many-refused-here : (file d mask r : ℕ) → m.asked o ≡ asks (take_many file d mask)
-        → (answer_at m l before o ≡ numbers_of (Refused r)) ↔ ((take_many_refused l file d ≡ r) × (r ≡ 0 → ⊥))
+        → (answer_at m l before o ≡ numbers 5 r 0 0) ↔ Refuses (take_many_refused l file d) r
     many-refused-here file d mask r e =
         let i = many-refused-told here file d mask r in
         let w = answered (take_many file d mask) e in
         let s = many_still_refused file d in
-        (λ h. let k = i.0 (sym w ∙ h) in (sym s ∙ k.0, k.1), λ k. w ∙ i.1 (s ∙ k.0, k.1))
+        (λ h. let k = i.0 (sym w ∙ h) in (k.0, sym s ∙ k.1, k.2), λ k. w ∙ i.1 (k.0, s ∙ k.1, k.2))
 
     silent-here : ((file n : ℕ) → asked_event file n (m.asked o) (m.answer here o) ≡ store → ⊥) → notices_of (answer_at m l before o) ≡ []
     silent-here h = silent_call (m.asked o) (m.answer here o) (m.after here o) here faith_here h

@@ -7,6 +7,7 @@ use mathlib.Core.List.{List, [], ◌∷◌}
 use native.Mathlib.Omega.{arith}
 use borrow.Author.Tests.{eq-eqb, eqb-true}
 use lib.Dec.{eqb}
+use Rattle.std.specs.Prelude.{Ok}
 use Rattle.memory.proofs.Truth.{and_off, and_true}
 use Rattle.word.specs.Word.{contains}
 use Rattle.word.proofs.Bits.{word-bit}
@@ -62,7 +63,7 @@ module _ {O : Type 0} (m : Machine O) where
   module _ (l : Lent) (ops : List O) (closes : Closes m l ops) where
     -- a take of many: "a bit is answered exactly when it is in the mask and its interrupt waits"
     module _ (before : List O) (o : O) (p : Place) (d mask : ℕ) (w : Comes m l ops before o) (e : m.asked o ≡ asks (take_many p.file d mask))
-        (z : take_many_refused l p.file d ≡ 0) (c : Counted m l before p) where
+        (z : take_many_refused l p.file d ≡ Ok tt) (c : Counted m l before p) where
       answered-bit : (k : ℕ) → k < 64 → contains (answer_at m l before o).first k ≡ (contains mask k && eqb (account_after m l before p (64 * d + k)).mark 1)
       answered-bit k lk =
           ap (λ (a : Numbers). contains a.first k) (closes.taken_many before o p d mask w e z c)
@@ -112,11 +113,11 @@ module _ {O : Type 0} (m : Machine O) where
               )
 
           -- no take of it that isn't refused is answered 1
-          pub none-taken : m.asked o ≡ asks (take p.file n) → take_refused l p.file n ≡ 0 → answer_at m l before o ≡ numbers_of (Taken 0)
+          pub none-taken : m.asked o ≡ asks (take p.file n) → take_refused l p.file n ≡ Ok tt → answer_at m l before o ≡ numbers_of (Taken 0)
           none-taken e z = (closes.taken before o p n w e z k).0 ∙ ap (λ (x : ℕ). numbers_of (Taken x)) never-waits
 
           -- nor has a take of many its bit among those that it answers
-          pub none-answered : (mask : ℕ) → m.asked o ≡ asks (take_many p.file (n / 64) mask) → take_many_refused l p.file (n / 64) ≡ 0
+          pub none-answered : (mask : ℕ) → m.asked o ≡ asks (take_many p.file (n / 64) mask) → take_many_refused l p.file (n / 64) ≡ Ok tt
               → contains (answer_at m l before o).first (n % 64) ≡ false
           none-answered mask e z =
               answered-bit before o p (n / 64) mask w e z k (n % 64) (omega arith)

@@ -1,15 +1,18 @@
 -- An account's counts are tallies of its events, and their sums over different files are what the history's calls add up to. Assumes nothing.
-use Prim.Native.Nat.{ℕ, zero, suc, ◌+◌, ◌/◌, ◌%◌, ◌^◌, ◌<◌}
+use Prim.Native.Nat.{ℕ, ◌+◌, ◌/◌, ◌%◌, ◌^◌, ◌<◌}
 use mathlib.Core.Path.{◌≡◌, refl, sym, ap, ap₂, ◌∙◌}
 use mathlib.Core.List.{List, [], ◌∷◌, ◌++◌}
 use mathlib.Core.Bool.{Bool, true, false, ◌&&◌}
 use native.Mathlib.Omega.{arith}
 use lib.Dec.{eqb}
 use lib.ListN.{length}
+use Rattle.std.specs.Prelude.{Result, Ok, Err}
 use Rattle.word.specs.Word.{contains}
 use Rattle.interrupt_file.specs.File.{is_file, taken_of}
 use Rattle.interrupt_file.proofs.Many.{taken_lt}
-use Rattle.memory.specs.Choice.{pick, unless_refused}
+use Rattle.memory.specs.Choice.{pick}
+use Rattle.refusal.specs.declared.Refusal.{Refusal}
+use Rattle.refusal.specs.Checks.{unless_refused}
 use Rattle.iommu_refusals.specs.declared.DeviceRequest.{DeviceRequest}
 use Rattle.iommu_files.specs.declared.Answer.{Answer}
 use Rattle.iommu_files.specs.declared.Answer.TheVariants.{Translated, Redirected, Stored, Discarded, Fault, Refused, Taken}
@@ -136,11 +139,11 @@ module _ (ps : List Place) (d : Different ps) where
     request-stores mode root q value (Refused r) e = total-zero ps
     request-stores mode root q value (Taken v) e = total-zero ps
 
-    many-takes : (g e mask r : ℕ) → take_many_refused l g e ≡ r
+    many-takes : (g e mask : ℕ) (r : Result (Unit {0}) Refusal) → take_many_refused l g e ≡ r
         → total ps (λ p n. one_take (op_event p.file n (take_many g e mask) (numbers_of (unless_refused r Refused (Taken (answered_at (starts l) (xs l) (ys l) g e mask))))))
         ≡ op_takes (among ps) (take_many g e mask) (numbers_of (unless_refused r Refused (Taken (answered_at (starts l) (xs l) (ys l) g e mask))))
-    many-takes g e mask (suc r) h = total-zero ps
-    many-takes g e mask zero h =
+    many-takes g e mask (Err r) h = total-zero ps
+    many-takes g e mask (Ok tt) h =
         let k = many-passed l g e h in
         let v = answered_at (starts l) (xs l) (ys l) g e mask in
         total_cong ps _ _ (λ p n. take_weighs (eqb g p.file) (eqb e (n / 64) && contains v (n % 64)))

@@ -1,4 +1,5 @@
 -- The ledger of a small list of calls, computed: two stores of one identity merge, takes of one and of many, and calls that change nothing. Assumes nothing.
+use Rattle.std.specs.Prelude.{None}
 use Prim.Native.Nat.{ℕ, ◌+◌, ◌-◌}
 use mathlib.Core.Path.{◌≡◌, refl, ap}
 use mathlib.Core.Bool.{true, false}
@@ -9,7 +10,6 @@ use lib.ListN.{replicate}
 use Rattle.memory.specs.Code.{eight}
 use Rattle.memory.specs.Window.{Lent, window_at, memory}
 use Rattle.causes.specs.declared.Access.TheVariants.{Write}
-use Rattle.directory_process.specs.declared.ProcessId.TheVariants.{Absent}
 use Rattle.paging_scheme.specs.Scheme.{legal_of, index_of}
 use Rattle.paging_entry.specs.Entry.{entry_of, allows, mapped_by}
 use Rattle.paging_entry.specs.Entry.{on_load}
@@ -29,7 +29,7 @@ use Rattle.interrupt_file.specs.File.{is_file, pending_of, after_store, after_ta
 use Rattle.iommu_files.specs.declared.Numbers.{Numbers}
 use Rattle.iommu_files.specs.Answers.{numbers}
 use Rattle.iommu_refusals.specs.Refusals.{bad_window, overlap, request_refusal, take_refusal, take_many_refusal}
-use Rattle.iommu_translation.specs.Translate.{untranslated, is_message, guest_of, stages_of, directory_of, translate_of}
+use Rattle.iommu_translation.specs.Translate.{untranslated, message_table, guest_of, stages_of, directory_of, translate_of}
 use Rattle.iommu.specs.Request.{storable_as, finish, request_of, after_request}
 use Rattle.iommu_files.specs.Files.{take_of, after_take_of, take_many_of, after_take_many_of}
 use Rattle.iommu.specs.Operations.{Op, request, take, take_many}
@@ -60,7 +60,7 @@ memories =
 -- a 4-byte write of device 0, to a page, under a directory mode and a root
 unfoldable pub write_to : ℕ → ℕ → ℕ → ℕ → Op
 write_to address mode root d =
-    request mode root (record { device = 0; process = Absent; supervisor = false; access = Write; address = address; length = 4 }) d
+    request mode root (record { device = 0; process = None; supervisor = false; access = Write; address = address; length = 4 }) d
 
 unfoldable pub write : ℕ → ℕ → ℕ → Op
 unfolding write_to
@@ -121,11 +121,11 @@ pub computed :
     × (account_after routines memories ops far 38 ≡ account 1 1 0 0)
     × (account_after routines memories ops far 64 ≡ account 0 1 0 1)
     × (account_after routines memories ops far 70 ≡ account 0 1 0 1)
-unfolding ones_in ones memory legal_of index_of entry_of allows mapped_by on_load level_step levels walk_of second_stage_of first_stage_of pointer_of leaf_place too_wide device_misconfigured device_context_at device_context_of process_misconfigured process_context_at process_context_of process_table first_table_of recognised packed extract translate_reserved record_reserved on_notice on_translate on_message_entry message_of bit_at with_bit without_bit is_file pending_of after_store after_take bad_window overlap request_refusal take_refusal untranslated is_message guest_of stages_of directory_of translate_of storable_as finish request_of after_request take_of after_take_of take_many_refusal take_many_of after_take_many_of taken_of taken_to contains word_of history left_by entered_all account_of memories write_to write early later middle last ops
+unfolding ones_in ones memory legal_of index_of entry_of allows mapped_by on_load level_step levels walk_of second_stage_of first_stage_of pointer_of leaf_place too_wide device_misconfigured device_context_at device_context_of process_misconfigured process_context_at process_context_of process_table first_table_of recognised packed extract translate_reserved record_reserved on_notice on_translate on_message_entry message_of bit_at with_bit without_bit is_file pending_of after_store after_take bad_window overlap request_refusal take_refusal untranslated message_table guest_of stages_of directory_of translate_of storable_as finish request_of after_request take_of after_take_of take_many_refusal take_many_of after_take_many_of taken_of taken_to contains word_of history left_by entered_all account_of memories write_to write early later middle last ops
 computed = (refl, refl, refl, refl, refl, refl, refl, refl, refl)
 
 waits_64 : account_after routines memories middle far 64 ≡ account 1 1 0 0
-unfolding ones_in ones memory legal_of index_of entry_of allows mapped_by on_load level_step levels walk_of second_stage_of first_stage_of pointer_of leaf_place too_wide device_misconfigured device_context_at device_context_of process_misconfigured process_context_at process_context_of process_table first_table_of recognised packed extract translate_reserved record_reserved on_notice on_translate on_message_entry message_of bit_at with_bit without_bit is_file pending_of after_store after_take bad_window overlap request_refusal take_refusal untranslated is_message guest_of stages_of directory_of translate_of storable_as finish request_of after_request take_of after_take_of history left_by entered_all account_of memories write_to write early later middle
+unfolding ones_in ones memory legal_of index_of entry_of allows mapped_by on_load level_step levels walk_of second_stage_of first_stage_of pointer_of leaf_place too_wide device_misconfigured device_context_at device_context_of process_misconfigured process_context_at process_context_of process_table first_table_of recognised packed extract translate_reserved record_reserved on_notice on_translate on_message_entry message_of bit_at with_bit without_bit is_file pending_of after_store after_take bad_window overlap request_refusal take_refusal untranslated message_table guest_of stages_of directory_of translate_of storable_as finish request_of after_request take_of after_take_of history left_by entered_all account_of memories write_to write early later middle
 waits_64 = refl
 
 -- the theorem of this list, with each kind of premise met

@@ -1,5 +1,5 @@
 -- What one call keeps of one bit: it goes as the ledger's event says, and a successful take finds it at 1; and which bytes a call may change. Assumes nothing.
-use Prim.Native.Nat.{ℕ, zero, suc, ◌+◌, ◌-◌, ◌*◌, ◌/◌, ◌%◌, ◌^◌, ◌<◌}
+use Prim.Native.Nat.{ℕ, ◌+◌, ◌-◌, ◌*◌, ◌/◌, ◌%◌, ◌^◌, ◌<◌}
 use mathlib.Core.Path.{◌≡◌, refl, sym, ap, subst, ◌∙◌}
 use mathlib.Core.Bool.{Bool, true, false, ◌&&◌}
 use mathlib.Core.List.{List}
@@ -8,7 +8,10 @@ use borrow.Author.Tests.{eq-eqb, ne_eqb, eqb-true, eqb-false, leb-true}
 use lib.Dec.{eqb, leb}
 use lib.ListN.{length, get_or}
 use lib.Seq.{get_or-set_other}
-use Rattle.memory.specs.Choice.{pick, unless_refused}
+use Rattle.std.specs.Prelude.{Result, Ok, Err}
+use Rattle.memory.specs.Choice.{pick}
+use Rattle.refusal.specs.declared.Refusal.{Refusal}
+use Rattle.refusal.specs.Checks.{unless_refused}
 use Rattle.memory.specs.Window.{Window, Lent, lent, holds, byte_at}
 use Rattle.memory.proofs.Truth.{no_way, true-false, and_true}
 use Rattle.word.specs.Word.{contains}
@@ -20,7 +23,7 @@ use Rattle.iommu_refusals.specs.declared.DeviceRequest.{DeviceRequest}
 use Rattle.iommu_files.specs.declared.Answer.{Answer}
 use Rattle.iommu_files.specs.declared.Answer.TheVariants.{Translated, Redirected, Stored, Discarded, Fault, Refused, Taken}
 use Rattle.iommu_files.specs.declared.Numbers.{Numbers}
-use Rattle.iommu_files.specs.Answers.{numbers_of}
+use Rattle.iommu_files.specs.Answers.{numbers, numbers_of}
 use Rattle.iommu_refusals.specs.Refusals.{is_lent_file}
 use Rattle.iommu.specs.Request.{identity_of, stored_by, after_request}
 use Rattle.iommu_files.specs.Files.{changed_at, answered_at, many_taken_at, take_many_of, after_take_many_of}
@@ -37,7 +40,7 @@ use Rattle.ledger.proofs.Sides.{side-changed, side-answered}
 -- a machine whose calls answer and leave what the routines do for the operations that they ask; a call that asks none is refused, and leaves all
 abbrev pub Faith : Asked → Numbers → Lent → Lent → Type 0
 Faith (asks o) a after l = (a ≡ numbers_of (answer_of l o)) × (after ≡ after_of l o)
-Faith asks_nothing a after l = ((r : ℕ) × (a ≡ numbers_of (Refused r))) × (after ≡ l)
+Faith asks_nothing a after l = ((r : ℕ) × (a ≡ numbers 5 r 0 0)) × (after ≡ l)
 
 abbrev pub Faithful : {O : Type 0} → Machine O → Type 0
 Faithful {O} m = (l : Lent) (o : O) → m.Granted l o → Faith (m.asked o) (m.answer l o) (m.after l o) l
@@ -126,9 +129,9 @@ many-same : (l : Lent) (f d mask : ℕ) (s : Side) → Same l (after_of l (take_
 unfolding after_take_many_of
 many-same l f d mask s = go (take_many_refused l f d)
   where
-    go : (r : ℕ) → Same l (unless_refused r (λ k. lent (starts l) (xs l) (ys l)) (many_taken_at (starts l) (xs l) (ys l) f d mask)) s
-    go zero = changed-same l f (clears f d mask) (λ start bytes. length_taken start bytes f d mask 64) s
-    go (suc r) = lent-own l s
+    go : (r : Result (Unit {0}) Refusal) → Same l (unless_refused r (λ k. lent (starts l) (xs l) (ys l)) (many_taken_at (starts l) (xs l) (ys l) f d mask)) s
+    go (Ok u) = changed-same l f (clears f d mask) (λ start bytes. length_taken start bytes f d mask 64) s
+    go (Err r) = lent-own l s
 
 op_same : (l : Lent) (o : Op) (s : Side) → Same l (after_of l o) s
 unfolding after_request
@@ -207,15 +210,15 @@ module _ (p : Place) (n : ℕ) (ln : n < 2048) (l : Lent) (h : Held p l) where
   abbrev Moves : Op → Type 0
   Moves o = (pending_in (after_of l o) p n ≡ step b (op_event p.file n o (numbers_of (answer_of l o)))) × Told b (op_event p.file n o (numbers_of (answer_of l o)))
 
-  many-step : (f d mask r : ℕ) → take_many_refused l f d ≡ r
+  many-step : (f d mask : ℕ) (r : Result (Unit {0}) Refusal) → take_many_refused l f d ≡ r
       → (pending_in (unless_refused r (λ k. lent (starts l) (xs l) (ys l)) (many_taken_at (starts l) (xs l) (ys l) f d mask)) p n
       ≡ step b (op_event p.file n (take_many f d mask) (numbers_of (unless_refused r Refused (Taken (answered_at (starts l) (xs l) (ys l) f d mask))))))
       × Told b (op_event p.file n (take_many f d mask) (numbers_of (unless_refused r Refused (Taken (answered_at (starts l) (xs l) (ys l) f d mask)))))
-  many-step f d mask zero e =
+  many-step f d mask (Ok tt) e =
       let k = many-passed l f d e in
       let t = many-side w p.file n h ln f d mask k.2 (answered_at (starts l) (xs l) (ys l) f d mask) _ refl (side-answered l f k.0 k.1 d mask p.side) in
       (changed-moves f (clears f d mask) k.0 k.1 ∙ t.0, t.1)
-  many-step f d mask (suc r) e = (own-moves, tt)
+  many-step f d mask (Err r) e = (own-moves, tt)
 
   many-moves : (f d mask : ℕ) → Moves (take_many f d mask)
   unfolding take_many_of after_take_many_of
@@ -303,11 +306,11 @@ module _ (l : Lent) (s : Side) (a : ℕ) (inw : holds (window_of l s) a 1 ≡ tr
   request-quiet mode root q value (Refused r) e h = own-byte
   request-quiet mode root q value (Taken v) e h = own-byte
 
-  taken-quiet : (f d mask r : ℕ) → take_many_refused l f d ≡ r
+  taken-quiet : (f d mask : ℕ) (r : Result (Unit {0}) Refusal) → take_many_refused l f d ≡ r
       → Quiet l s a (λ file i. op_event file i (take_many f d mask) (numbers_of (unless_refused r Refused (Taken (answered_at (starts l) (xs l) (ys l) f d mask)))))
       → byte_at (window_of (unless_refused r (λ k. lent (starts l) (xs l) (ys l)) (many_taken_at (starts l) (xs l) (ys l) f d mask)) s) a ≡ byte_at (window_of l s) a
-  taken-quiet f d mask (suc r) e h = own-byte
-  taken-quiet f d mask zero e h =
+  taken-quiet f d mask (Err r) e h = own-byte
+  taken-quiet f d mask (Ok tt) e h =
       let k = many-passed l f d e in
       changed-byte f (clears f d mask) k.0 k.1
       ∙ many-quiet (window_of l s) a inw f d mask k.2 _ refl

@@ -10,8 +10,11 @@ use lib.Count.{ones, ones_cat}
 use lib.Dec.{eqb}
 use lib.ListN.{length}
 use lib.Pow.{pow_pos}
+use Rattle.std.specs.Prelude.{Result, Ok, Err}
 use Rattle.memory.proofs.Truth.{and_on, and_off}
-use Rattle.memory.specs.Choice.{pick, unless_refused}
+use Rattle.memory.specs.Choice.{pick}
+use Rattle.refusal.specs.declared.Refusal.{Refusal}
+use Rattle.refusal.specs.Checks.{unless_refused}
 use Rattle.memory.specs.Window.{Lent}
 use Rattle.word.specs.Word.{contains}
 use Rattle.word.proofs.Bits.{bit_pow, zero-digit}
@@ -78,7 +81,7 @@ module _ (l : Lent) (f i : ℕ) where
       go false = pending_lt l.second.start (ys l) f i
 
   -- by the checks, which are the same
-  by_checks : {A : Type 0} (one many : ℕ → ℕ → A) → ((r : ℕ) → one r p ≡ many r (p * 2 ^ (i % 64)))
+  by_checks : {A : Type 0} (one many : Result (Unit {0}) Refusal → ℕ → A) → ((r : Result (Unit {0}) Refusal) → one r p ≡ many r (p * 2 ^ (i % 64)))
       → one (take_refused l f i) p ≡ many (take_many_refused l f (i / 64)) (answered_at (starts l) (xs l) (ys l) f (i / 64) (2 ^ (i % 64)))
   by_checks one many h =
       h (take_refused l f i) ∙ ap₂ many (sym (same-refusal (starts l) (xs l) (ys l) f i)) (sym (one-answered (starts l) (xs l) (ys l) f i))
@@ -88,20 +91,20 @@ module _ (l : Lent) (f i : ℕ) where
   one-event file n =
       by_checks (λ r v. op_event file n (take f i) (numbers_of (unless_refused r Refused (Taken v)))) (λ r v. op_event file n many (numbers_of (unless_refused r Refused (Taken v)))) go
     where
-      go : (r : ℕ) → op_event file n (take f i) (numbers_of (unless_refused r Refused (Taken p)))
+      go : (r : Result (Unit {0}) Refusal) → op_event file n (take f i) (numbers_of (unless_refused r Refused (Taken p)))
           ≡ op_event file n many (numbers_of (unless_refused r Refused (Taken (p * 2 ^ (i % 64)))))
-      go zero = ap (λ (b : Bool). pick (eqb f file && b) successful_take nothing) (bit_of p i n small)
-      go (suc r) = refl
+      go (Ok u) = ap (λ (b : Bool). pick (eqb f file && b) successful_take nothing) (bit_of p i n small)
+      go (Err r) = refl
 
   pub one_weight : (these : ℕ → Bool) → op_takes these (take f i) (numbers_of (answer_of l (take f i))) ≡ op_takes these many (numbers_of (answer_of l many))
   unfolding take_of take_many_of
   one_weight these =
       by_checks (λ r v. op_takes these (take f i) (numbers_of (unless_refused r Refused (Taken v)))) (λ r v. op_takes these many (numbers_of (unless_refused r Refused (Taken v)))) go
     where
-      go : (r : ℕ) → op_takes these (take f i) (numbers_of (unless_refused r Refused (Taken p)))
+      go : (r : Result (Unit {0}) Refusal) → op_takes these (take f i) (numbers_of (unless_refused r Refused (Taken p)))
           ≡ op_takes these many (numbers_of (unless_refused r Refused (Taken (p * 2 ^ (i % 64)))))
-      go zero = weight_of p (i % 64) (these f) small
-      go (suc r) = refl
+      go (Ok u) = weight_of p (i % 64) (these f) small
+      go (Err r) = refl
 
   pub one_leaves : after_of l many ≡ after_of l (take f i)
   one_leaves = one-after (starts l) (xs l) (ys l) f i

@@ -1,14 +1,18 @@
 -- Reports of a file before and after a list of calls differ by the ledger's counts. Assumes nothing.
-use Prim.Native.Nat.{ℕ, zero, suc, ◌+◌, ◌-◌, ◌/◌, ◌%◌, ◌^◌}
+use Prim.Native.Nat.{ℕ, ◌+◌, ◌-◌, ◌/◌, ◌%◌, ◌^◌}
 use mathlib.Core.Path.{◌≡◌, refl, sym, ap, subst, ◌∙◌}
 use mathlib.Core.Bool.{Bool, true, false, not}
 use mathlib.Core.List.{List, [], ◌∷◌}
 use native.Mathlib.Omega.{arith}
 use lib.Dec.{eqb}
 use lib.ListN.{length, drop, take as list_take}
-use Rattle.memory.specs.Choice.{pick, unless_refused}
+use Rattle.std.specs.Prelude.{Result, Ok, Err}
+use Rattle.memory.specs.Choice.{pick}
+use Rattle.refusal.specs.declared.Refusal.{Refusal}
+use Rattle.refusal.specs.declared.Refusal.TheVariants.{NoFile}
+use Rattle.refusal.specs.Checks.{unless_refused}
 use Rattle.memory.specs.Window.{Lent, inside, lent, part_of}
-use Rattle.memory.proofs.Truth.{and_true}
+use Rattle.memory.proofs.Truth.{and_true, no_way}
 use Rattle.interrupt_file.specs.File.{is_file, after_store, after_take_many}
 use Rattle.interrupt_file.specs.Report.{count_of, file_report}
 use Rattle.interrupt_file.specs.declared.Report.{Report}
@@ -57,9 +61,9 @@ many-bytes : (l : Lent) (f d mask : ℕ) → AllBytes l → AllBytes (after_of l
 unfolding after_take_many_of
 many-bytes l f d mask h = go (take_many_refused l f d)
   where
-    go : (r : ℕ) → AllBytes (unless_refused r (λ k. lent (starts l) (xs l) (ys l)) (many_taken_at (starts l) (xs l) (ys l) f d mask))
-    go zero = changed-bytes l f (λ start bytes. after_take_many start bytes f d mask) (λ start bytes. taken-bytes start bytes f d mask 64) h
-    go (suc r) = own-bytes l h
+    go : (r : Result (Unit {0}) Refusal) → AllBytes (unless_refused r (λ k. lent (starts l) (xs l) (ys l)) (many_taken_at (starts l) (xs l) (ys l) f d mask))
+    go (Ok u) = changed-bytes l f (λ start bytes. after_take_many start bytes f d mask) (λ start bytes. taken-bytes start bytes f d mask 64) h
+    go (Err r) = own-bytes l h
 
 op_bytes : (l : Lent) (o : Op) → AllBytes l → AllBytes (after_of l o)
 unfolding after_request
@@ -81,22 +85,22 @@ unfolding left_by
 left-bytes l [] h = h
 left-bytes l (o ∷ os) h = left-bytes (after_of l o) os (op_bytes l o h)
 
-abbrev pub report_refused : Lent → ℕ → ℕ
+abbrev pub report_refused : Lent → ℕ → Result (Unit {0}) Refusal
 report_refused l file = report_refusal (starts_of l) (length l.first.bytes) (length l.second.bytes) file
 
 abbrev pub report_in : Lent → ℕ → Report
 report_in l file = report_of (starts_of l) l.first.bytes l.second.bytes file
 
-report-passed : (l : Lent) (file : ℕ) → report_refused l file ≡ 0 → Apart l × (is_lent_file (starts l) (length (xs l)) (length (ys l)) file ≡ true)
+report-passed : (l : Lent) (file : ℕ) → report_refused l file ≡ Ok tt → Apart l × (is_lent_file (starts l) (length (xs l)) (length (ys l)) file ≡ true)
 unfolding report_refusal
 report-passed l file e =
     let w = windows-apart (bad_windows (starts l) (length (xs l)) (length (ys l))) (overlap (starts l) (length (xs l)) (length (ys l))) _ e in
     (w.0, go (is_lent_file (starts l) (length (xs l)) (length (ys l)) file) refl w.1)
   where
-    go : (f : Bool) → is_lent_file (starts l) (length (xs l)) (length (ys l)) file ≡ f → ◌≡◌ {A = ℕ} (pick (not f) 2008 0) 0
+    go : (f : Bool) → is_lent_file (starts l) (length (xs l)) (length (ys l)) file ≡ f → ◌≡◌ {A = Result (Unit {0}) Refusal} (pick (not f) (Err NoFile) (Ok tt)) (Ok tt)
         → is_lent_file (starts l) (length (xs l)) (length (ys l)) file ≡ true
     go true h z = h
-    go false h z = absurd (omega arith)
+    go false h z = absurd (no_way cc)
 
 -- the bytes of a file of one window, where the windows are apart
 part-is : (l : Lent) (p : Place) → Apart l → is_place l p ≡ true
@@ -119,11 +123,11 @@ part-is l p a h = go p.side h
     go second_window k = rw (out k, inn second_window k)
 
 -- the count of a report that is not refused
-reported : (l : Lent) (p : Place) → AllBytes l → is_place l p ≡ true → report_refused l p.file ≡ 0 → (report_in l p.file).count ≡ of_file (pending_in l p)
+reported : (l : Lent) (p : Place) → AllBytes l → is_place l p ≡ true → report_refused l p.file ≡ Ok tt → (report_in l p.file).count ≡ of_file (pending_in l p)
 reported l p h i z =
     let f = file-at i in
     let a = (report-passed l p.file z).0 in
-    ap (λ (r : Report). r.count) (sym (report_made (starts l) (xs l) (ys l) p.file 0 (sym z) (file_report (part_of l p.file 512)) (part_of l p.file 512) refl refl refl))
+    ap (λ (r : Report). r.count) (sym (report_made (starts l) (xs l) (ys l) p.file (Ok tt) (sym z) (file_report (part_of l p.file 512)) tt (part_of l p.file 512) refl refl refl))
     ∙ ap (λ (e : List ℕ). count_of e 32) (part-is l p a i)
     ∙ sym (pending-counted (window_of l p.side).bytes (h p.side) (window_of l p.side).start p.file f.after)
 
@@ -132,14 +136,14 @@ unfolding total
 total-one p g = omega arith
 
 -- a file's count before + its stores ≡ its successful takes + its merged stores + its count after
-pub reports-close : (l : Lent) (ops : List Op) (p : Place) → AllBytes l → is_place l p ≡ true → report_refused l p.file ≡ 0
+pub reports-close : (l : Lent) (ops : List Op) (p : Place) → AllBytes l → is_place l p ≡ true → report_refused l p.file ≡ Ok tt
     → (report_in l p.file).count + added_up routines (op_stores (among (p ∷ []))) (history routines l ops)
     ≡ added_up routines (op_takes (among (p ∷ []))) (history routines l ops) + of_file (λ n. (account_after routines l ops p n).merged)
     + (report_in (left routines l ops) p.file).count
 reports-close l ops p h i z =
     let after = left_by routines l ops in
     let s = list_same routines routines_faithful l ops (routines_granted l ops) in
-    let r : report_refused after p.file ≡ 0 = rw ((s first_window).place, (s first_window).long, (s second_window).place, (s second_window).long) z in
+    let r : report_refused after p.file ≡ Ok tt = rw ((s first_window).place, (s first_window).long, (s second_window).place, (s second_window).long) z in
     omega (
       arith,
       reported l p h i z,

@@ -1,10 +1,12 @@
 -- The change in pending bits over all files of both windows: every store and every successful take counts. Assumes nothing.
-use Prim.Native.Nat.{ℕ, zero, suc, ◌+◌, ◌/◌, ◌%◌, ◌^◌}
+use Prim.Native.Nat.{ℕ, ◌+◌, ◌/◌, ◌%◌, ◌^◌}
 use mathlib.Core.Path.{◌≡◌, refl, ap₂, sym, ◌∙◌}
 use mathlib.Core.Bool.{Bool, true, false, ◌||◌}
 use mathlib.Core.List.{List, [], ◌∷◌}
 use lib.ListN.{length}
-use Rattle.memory.specs.Choice.{unless_refused}
+use Rattle.std.specs.Prelude.{Result, Ok, Err}
+use Rattle.refusal.specs.declared.Refusal.{Refusal}
+use Rattle.refusal.specs.Checks.{unless_refused}
 use Rattle.memory.specs.Window.{Lent}
 use Rattle.iommu_refusals.specs.Refusals.{is_lent_file}
 use Rattle.iommu_files.specs.declared.Answer.{Answer}
@@ -68,11 +70,11 @@ module _ (files : List Place) where
     unfolding take_many_of
     many-take f d mask = go (take_many_refused l f d) refl
       where
-        go : (r : ℕ) → take_many_refused l f d ≡ r
+        go : (r : Result (Unit {0}) Refusal) → take_many_refused l f d ≡ r
             → op_takes (among files) (take_many f d mask) (numbers_of (unless_refused r Refused (Taken (answered_at (starts l) (xs l) (ys l) f d mask))))
             ≡ op_takes every (take_many f d mask) (numbers_of (unless_refused r Refused (Taken (answered_at (starts l) (xs l) (ys l) f d mask))))
-        go zero e = rw (full-lent f (many-passed l f d e).1)
-        go (suc r) e = refl
+        go (Ok tt) e = rw (full-lent f (many-passed l f d e).1)
+        go (Err r) e = refl
 
     op-take : (o : Op) → op_takes (among files) o (numbers_of (answer_of l o)) ≡ op_takes every o (numbers_of (answer_of l o))
     op-take (request mode root q value) = refl

@@ -1,4 +1,5 @@
 -- Wrong machines: the claim doesn't hold of them. Assumes nothing.
+use Rattle.std.specs.Prelude.{Err, Ok}
 use Prim.Native.Nat.{ℕ}
 use mathlib.Core.Path.{◌≡◌, refl, ap, ◌∙◌}
 use mathlib.Core.Bool.{true, false}
@@ -6,6 +7,7 @@ use mathlib.Core.List.{[], ◌∷◌}
 use native.Mathlib.Omega.{arith}
 use lib.Count.{ones_in, ones}
 use lib.Dec.{eqb}
+use Rattle.refusal.specs.Refusal.{number_of}
 use Rattle.memory.specs.Choice.{pick}
 use Rattle.memory.specs.Window.{window_at, memory}
 use Rattle.paging_scheme.specs.Scheme.{legal_of, index_of}
@@ -27,7 +29,7 @@ use Rattle.iommu_files.specs.declared.Answer.{Answer}
 use Rattle.iommu_files.specs.declared.Answer.TheVariants.{Translated, Redirected, Stored, Discarded, Fault, Refused, Taken}
 use Rattle.iommu_files.specs.Answers.{numbers_of, numbers}
 use Rattle.iommu_refusals.specs.Refusals.{bad_window, overlap, request_refusal, take_refusal}
-use Rattle.iommu_translation.specs.Translate.{untranslated, is_message, guest_of, stages_of, directory_of, translate_of}
+use Rattle.iommu_translation.specs.Translate.{untranslated, message_table, guest_of, stages_of, directory_of, translate_of}
 use Rattle.iommu.specs.Request.{storable_as, over_tables, finish, request_of, after_request}
 use Rattle.iommu_files.specs.Files.{take_of, after_take_of}
 use Rattle.iommu.specs.Operations.{Op, request, take, take_many}
@@ -37,6 +39,8 @@ use Rattle.ledger.specs.Ledger.{entered_all, account_of}
 use Rattle.ledger.specs.Closes.{recording, Closes}
 use Rattle.message.specs.declared.Destination.{Destination}
 use Rattle.iommu_translation.specs.declared.Outcome.{Outcome}
+use Rattle.iommu_translation.specs.Translate.{OutcomeFound}
+use Rattle.iommu_translation.specs.Translate.{OutcomeFound}
 use Rattle.iommu.specs.Operations.{answer_of, after_of}
 use Rattle.ledger.specs.Machine.{Machine, asks}
 use Rattle.ledger.proofs.Instance.{memories, write_to, write, far}
@@ -78,14 +82,14 @@ rootless =
 abbrev there : Destination
 there = record { file = 0x40001200; notice = 0x28000000; number = 1029 }
 
-is_record : Outcome → ℕ
-is_record (Outcome.Recorded d) = 1
-is_record (Outcome.Translated a) = 0
-is_record (Outcome.Redirected a) = 0
-is_record (Outcome.Fault f) = 0
+is_record : OutcomeFound → ℕ
+is_record (Ok (Outcome.Recorded d)) = 1
+is_record (Ok (Outcome.Translated a)) = 0
+is_record (Ok (Outcome.Redirected a)) = 0
+is_record (Err f) = 0
 
 pub rootless_breaks : Closes rootless memories (write 2 0x40002 37 ∷ []) → ⊥
-unfolding ones_in ones memory legal_of index_of entry_of allows mapped_by on_load level_step levels walk_of second_stage_of first_stage_of pointer_of leaf_place too_wide device_misconfigured device_context_at device_context_of process_misconfigured process_context_at process_context_of process_table first_table_of recognised packed extract translate_reserved record_reserved on_notice on_translate on_message_entry message_of bit_at with_bit without_bit is_file pending_of after_store after_take bad_window overlap request_refusal take_refusal untranslated is_message guest_of stages_of directory_of translate_of storable_as finish request_of after_request take_of after_take_of left_by memories write_to write is_record
+unfolding ones_in ones memory legal_of index_of entry_of allows mapped_by on_load level_step levels walk_of second_stage_of first_stage_of pointer_of leaf_place too_wide device_misconfigured device_context_at device_context_of process_misconfigured process_context_at process_context_of process_table first_table_of recognised packed extract translate_reserved record_reserved on_notice on_translate on_message_entry message_of bit_at with_bit without_bit is_file pending_of after_store after_take bad_window overlap request_refusal take_refusal untranslated message_table guest_of stages_of directory_of translate_of storable_as finish request_of after_request take_of after_take_of left_by memories write_to write is_record
 rootless_breaks c =
     let s = (c.stored [] (write 2 0x40002 37) 2 0x40002 _ 37 there ([], refl) refl).0 refl in
     no_way (ap is_record s.named)
@@ -102,7 +106,7 @@ first_only =
     }
 
 pub first_only_breaks : Closes first_only memories (write_to 0x80005000 2 0x40000 37 ∷ []) → ⊥
-unfolding ones_in ones memory legal_of index_of entry_of allows mapped_by on_load level_step levels walk_of second_stage_of first_stage_of pointer_of leaf_place too_wide device_misconfigured device_context_at device_context_of process_misconfigured process_context_at process_context_of process_table first_table_of recognised packed extract translate_reserved record_reserved on_notice on_translate on_message_entry message_of bit_at with_bit without_bit is_file pending_of after_store after_take bad_window overlap request_refusal take_refusal untranslated is_message guest_of stages_of directory_of translate_of storable_as finish request_of after_request take_of after_take_of left_by memories write_to write history entered_all account_of
+unfolding ones_in ones memory legal_of index_of entry_of allows mapped_by on_load level_step levels walk_of second_stage_of first_stage_of pointer_of leaf_place too_wide device_misconfigured device_context_at device_context_of process_misconfigured process_context_at process_context_of process_table first_table_of recognised packed extract translate_reserved record_reserved on_notice on_translate on_message_entry message_of bit_at with_bit without_bit is_file pending_of after_store after_take bad_window overlap request_refusal take_refusal untranslated message_table guest_of stages_of directory_of translate_of storable_as finish request_of after_request take_of after_take_of left_by memories write_to write history entered_all account_of
 first_only_breaks c = no_way (c.marks far 37 (record { within = refl; counts = tt }) (omega arith)).0
 
 -- it answers a store where 2012 refuses one
@@ -110,7 +114,7 @@ abbrev over : Destination
 over = record { file = 0x40000200; notice = 0x28000000; number = 1031 }
 
 abbrev overlooked : Answer → Answer
-overlooked (Refused r) = pick (eqb r 2012) (Stored over) (Refused r)
+overlooked (Refused r) = pick (eqb (number_of r) 2012) (Stored over) (Refused r)
 overlooked (Translated a) = Translated a
 overlooked (Redirected a) = Redirected a
 overlooked (Stored d) = Stored d
@@ -128,14 +132,14 @@ overlooking =
       Counts = λ l ops p. Unit {0};
     }
 
-context_of : Outcome → ℕ
-context_of (Outcome.Recorded r) = r.context
-context_of (Outcome.Translated a) = 0
-context_of (Outcome.Redirected a) = 0
-context_of (Outcome.Fault f) = 0
+context_of : OutcomeFound → ℕ
+context_of (Ok (Outcome.Recorded r)) = r.context
+context_of (Ok (Outcome.Translated a)) = 0
+context_of (Ok (Outcome.Redirected a)) = 0
+context_of (Err f) = 0
 
 pub overlooking_breaks : Closes overlooking memories (write_to 0x80006000 2 0x40000 37 ∷ []) → ⊥
-unfolding ones_in ones memory legal_of index_of entry_of allows mapped_by on_load level_step levels walk_of second_stage_of first_stage_of pointer_of leaf_place too_wide device_misconfigured device_context_at device_context_of process_misconfigured process_context_at process_context_of process_table first_table_of recognised packed extract translate_reserved record_reserved on_notice on_translate on_message_entry message_of bit_at with_bit without_bit is_file pending_of after_store after_take bad_window overlap request_refusal take_refusal untranslated is_message guest_of stages_of directory_of translate_of storable_as finish request_of after_request take_of after_take_of left_by memories write_to write context_of
+unfolding ones_in ones memory legal_of index_of entry_of allows mapped_by on_load level_step levels walk_of second_stage_of first_stage_of pointer_of leaf_place too_wide device_misconfigured device_context_at device_context_of process_misconfigured process_context_at process_context_of process_table first_table_of recognised packed extract translate_reserved record_reserved on_notice on_translate on_message_entry message_of bit_at with_bit without_bit is_file pending_of after_store after_take bad_window overlap request_refusal take_refusal untranslated message_table guest_of stages_of directory_of translate_of storable_as finish request_of after_request take_of after_take_of left_by memories write_to write context_of
 overlooking_breaks c =
     let s = (c.stored [] (write_to 0x80006000 2 0x40000 37) 2 0x40000 _ 37 over ([], refl) refl).0 refl in
     let here : 0x40000000 ≡ s.context = ap context_of s.named in

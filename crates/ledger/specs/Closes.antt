@@ -1,17 +1,19 @@
 -- Demand 3, "the ledger closes": one claim about any list of calls (01, "The ledger of demand 3").
-use Rattle.std.specs.Prelude.{ℕ, ◌+◌, ◌*◌, ◌<◌, ◌≡◌, ◌↔◌, true, false, ◌&&◌, List, [], ◌∷◌, ◌++◌, eqb, length}
+use Rattle.std.specs.Prelude.{ℕ, ◌+◌, ◌*◌, ◌<◌, ◌≡◌, ◌↔◌, true, false, ◌&&◌, List, [], ◌∷◌, ◌++◌, eqb, length, Result, Ok, Err}
 use Rattle.memory.specs.Choice.{pick}
 use Rattle.memory.specs.Window.{Lent, holds, byte_at, memory}
 use Rattle.memory.specs.Walk.{run}
 use Rattle.word.specs.Word.{contains, word_of}
 use Rattle.message.specs.declared.Destination.{Destination}
 use Rattle.interrupt_file.specs.File.{place_of}
+use Rattle.refusal.specs.Refusal.{number_of}
+use Rattle.refusal.specs.declared.Refusal.{Refusal}
 use Rattle.iommu_refusals.specs.declared.DeviceRequest.{DeviceRequest}
 use Rattle.iommu_translation.specs.declared.Recording.{Recording}
 use Rattle.iommu_translation.specs.declared.Outcome.TheVariants.{Recorded}
-use Rattle.iommu_files.specs.declared.Answer.TheVariants.{Stored, Refused, Taken}
+use Rattle.iommu_files.specs.declared.Answer.TheVariants.{Stored, Taken}
 use Rattle.iommu_files.specs.declared.Numbers.{Numbers}
-use Rattle.iommu_files.specs.Answers.{numbers_of}
+use Rattle.iommu_files.specs.Answers.{numbers, numbers_of}
 use Rattle.iommu_refusals.specs.Refusals.{is_lent_file, request_refusal, take_refusal, take_many_refusal}
 use Rattle.iommu_translation.specs.Translate.{translate_of}
 use Rattle.iommu.specs.Request.{storable, over_tables}
@@ -29,18 +31,22 @@ recording d context entry = record { destination = d; context = context; entry =
 pub record Storing (l : Lent) (mode root : ℕ) (q : DeviceRequest) (value : ℕ) (d : Destination) : Type 0 where
   pub context : ℕ
   pub entry : ℕ
-  pub unrefused : request_refusal (settings l mode root) (length l.first.bytes) (length l.second.bytes) q ≡ 0
-  pub named : run (memory l) (translate_of (settings l mode root) q) ≡ Recorded (recording d context entry)
+  pub unrefused : request_refusal (settings l mode root) (length l.first.bytes) (length l.second.bytes) q ≡ Ok tt
+  pub named : run (memory l) (translate_of (settings l mode root) q) ≡ Ok (Recorded (recording d context entry))
   pub storing : storable q value ≡ true
   pub within : is_lent_file (starts_of l) (length l.first.bytes) (length l.second.bytes) d.file ≡ true
   pub clear : over_tables (recording d context entry) ≡ false
 
--- the number of the check that refuses a take, of one or of many, or 0
-abbrev pub take_refused : Lent → ℕ → ℕ → ℕ
+-- what the checks of a take give, of one or of many
+abbrev pub take_refused : Lent → ℕ → ℕ → Result (Unit {0}) Refusal
 take_refused l file n = take_refusal (starts_of l) (length l.first.bytes) (length l.second.bytes) file n
 
-abbrev pub take_many_refused : Lent → ℕ → ℕ → ℕ
+abbrev pub take_many_refused : Lent → ℕ → ℕ → Result (Unit {0}) Refusal
 take_many_refused l file d = take_many_refusal (starts_of l) (length l.first.bytes) (length l.second.bytes) file d
+
+-- a check refuses, and its refusal has the number r
+abbrev pub Refuses : Result (Unit {0}) Refusal → ℕ → Type 0
+Refuses checked r = (why : Refusal) × (checked ≡ Err why) × (number_of why ≡ r)
 
 -- "A notice is the second and third number of an answer 2"
 pub record Notice : Type 0 where
@@ -125,18 +131,18 @@ module _ {O : Type 0} (m : Machine O) (l : Lent) where
         → m.asked o ≡ asks (request mode root q value)
         → (answer_at before o ≡ numbers_of (Stored d)) ↔ Storing (left before) mode root q value d
     -- 4. "A take that isn't refused is answered 6, with 1 exactly when the mark is waiting, else with 0"
-    pub taken : (before : List O) (o : O) (p : Place) (n : ℕ) → Comes ops before o → m.asked o ≡ asks (take p.file n) → take_refused l p.file n ≡ 0
+    pub taken : (before : List O) (o : O) (p : Place) (n : ℕ) → Comes ops before o → m.asked o ≡ asks (take p.file n) → take_refused l p.file n ≡ Ok tt
         → Counted before p
         → (answer_at before o ≡ numbers_of (Taken (account_after before p n).mark)) × ((account_after before p n).mark < 2)
     -- of many: "in a call that isn't refused, a bit is answered exactly when it is in the mask and its interrupt waits"; bit k is identity 64 d + k
-    pub taken_many : (before : List O) (o : O) (p : Place) (d mask : ℕ) → Comes ops before o → m.asked o ≡ asks (take_many p.file d mask) → take_many_refused l p.file d ≡ 0
+    pub taken_many : (before : List O) (o : O) (p : Place) (d mask : ℕ) → Comes ops before o → m.asked o ≡ asks (take_many p.file d mask) → take_many_refused l p.file d ≡ Ok tt
         → Counted before p
         → answer_at before o ≡ numbers_of (Taken (word_of 64 (λ k. contains mask k && eqb (account_after before p (64 * d + k)).mark 1)))
     -- and each is refused exactly when a check refuses it, by the check's number
     pub refused : (before : List O) (o : O) (file n r : ℕ) → Comes ops before o → m.asked o ≡ asks (take file n)
-        → (answer_at before o ≡ numbers_of (Refused r)) ↔ ((take_refused l file n ≡ r) × (r ≡ 0 → ⊥))
+        → (answer_at before o ≡ numbers 5 r 0 0) ↔ Refuses (take_refused l file n) r
     pub refused_many : (before : List O) (o : O) (file d mask r : ℕ) → Comes ops before o → m.asked o ≡ asks (take_many file d mask)
-        → (answer_at before o ≡ numbers_of (Refused r)) ↔ ((take_many_refused l file d ≡ r) × (r ≡ 0 → ⊥))
+        → (answer_at before o ≡ numbers 5 r 0 0) ↔ Refuses (take_many_refused l file d) r
     -- 5. "After the list each pending bit is 1 exactly when its mark is waiting"; both are 0 or 1
     pub marks : (p : Place) (n : ℕ) → Counted ops p → n < 2048
         → (pending_after ops p n ≡ (account_after ops p n).mark) × (pending_after ops p n < 2)

@@ -4,8 +4,8 @@ use Rattle.memory.specs.Choice.{pick}
 use Rattle.memory.specs.Window.{inside, doubleword, Window, Lent, lent, holds, part_of, memory}
 use Rattle.memory.specs.Code.{eight, load_of}
 use Rattle.memory.specs.declared.Starts.{Starts}
-use Rattle.memory.specs.declared.Load.{Load}
-use Rattle.memory.specs.declared.Load.TheVariants.{Value, Violation}
+use Rattle.memory.specs.Load.{Load}
+use Rattle.std.specs.Prelude.{Some, None}
 use Rattle.memory.proofs.Truth.{and_true}
 
 -- what a test that holds says of a part's ends
@@ -28,7 +28,7 @@ same-doubleword xs ys i j h =
     let b0 : get_or xs i 0 ≡ get_or ys j 0 = ap (λ n. get_or xs n 0) (sym (add-zero i)) ∙ h 0 (omega arith) ∙ ap (λ n. get_or ys n 0) (add-zero j) in
     rw (b0, h 1 (omega arith), h 2 (omega arith), h 3 (omega arith), h 4 (omega arith), h 5 (omega arith), h 6 (omega arith), h 7 (omega arith))
 
--- eight bytes that are each written
+-- eight bytes that are each written, one after another
 pub eight-put : (xs : List ℕ) (v : ℕ) → length xs ≡ 8
     → set (set (set (set (set (set (set (set xs 0 (v % 256)) 1 (v / 2 ^ 8 % 256)) 2 (v / 2 ^ 16 % 256)) 3 (v / 2 ^ 24 % 256)) 4 (v / 2 ^ 32 % 256)) 5 (v / 2 ^ 40 % 256)) 6 (v / 2 ^ 48 % 256)) 7 (v / 2 ^ 56 % 256)
     ≡ eight v
@@ -63,37 +63,37 @@ module _ (l : Lent) (a size b k : ℕ) (place : b ≡ a + k) (room : k + 8 ≤ s
   cut w = take size (drop (a - w.start) w.bytes)
 
   abbrev at : Window → Load
-  at w = Value (doubleword w.bytes (b - w.start))
+  at w = Some (doubleword w.bytes (b - w.start))
 
-  word : (w : Window) → holds w a size ≡ true → Value (doubleword (cut w) k) ≡ at w
+  word : (w : Window) → holds w a size ≡ true → Some (doubleword (cut w) k) ≡ at w
   word w h =
       let lo = held_low w.start (length w.bytes) a size true (sym h) refl in
       let e : a - w.start + k ≡ b - w.start = omega arith in
-      ap Value (part-word w.bytes (a - w.start) size k room ∙ ap (doubleword w.bytes) e)
+      ap Some (part-word w.bytes (a - w.start) size k room ∙ ap (doubleword w.bytes) e)
 
   long : (w : Window) → holds w a size ≡ true → length (cut w) ≡ size
   long w h = part-long w.bytes (a - w.start) size (held_high w.start (length w.bytes) a size true (sym h) refl)
 
-  by_both : {x : Load} → x ≡ pick (holds l.first a size) (at l.first) (pick (holds l.second a size) (at l.second) Violation) → x ≡ memory l b
+  by_both : {x : Load} → x ≡ pick (holds l.first a size) (at l.first) (pick (holds l.second a size) (at l.second) None) → x ≡ memory l b
   unfolding memory
-  by_both e = e ∙ sym (ap₂ (λ p q. pick p (at l.first) (pick q (at l.second) Violation)) f g)
+  by_both e = e ∙ sym (ap₂ (λ p q. pick p (at l.first) (pick q (at l.second) None)) f g)
 
-  pub whole_word : size ≤ length (part_of l a size) → Value (doubleword (part_of l a size) k) ≡ memory l b
+  pub whole_word : size ≤ length (part_of l a size) → Some (doubleword (part_of l a size) k) ≡ memory l b
   unfolding part_of
   whole_word h = by_both (go (holds l.first a size) (holds l.second a size) refl refl h)
     where
       go : (p q : Bool) → holds l.first a size ≡ p → holds l.second a size ≡ q → size ≤ length (pick p (cut l.first) (pick q (cut l.second) []))
-          → Value (doubleword (pick p (cut l.first) (pick q (cut l.second) [])) k) ≡ pick p (at l.first) (pick q (at l.second) Violation)
+          → Some (doubleword (pick p (cut l.first) (pick q (cut l.second) [])) k) ≡ pick p (at l.first) (pick q (at l.second) None)
       go true q hp hq n = word l.first hp
       go false true hp hq n = word l.second hq
       go false false hp hq n = absurd (omega arith)
 
-  pub whole-none : length (part_of l a size) < size → Violation ≡ memory l b
+  pub whole-none : length (part_of l a size) < size → None ≡ memory l b
   unfolding part_of
   whole-none h = by_both (go (holds l.first a size) (holds l.second a size) refl refl h)
     where
       go : (p q : Bool) → holds l.first a size ≡ p → holds l.second a size ≡ q → length (pick p (cut l.first) (pick q (cut l.second) [])) < size
-          → Violation ≡ pick p (at l.first) (pick q (at l.second) Violation)
+          → None ≡ pick p (at l.first) (pick q (at l.second) None)
       go true q hp hq n = let e = long l.first hp in absurd (omega arith)
       go false true hp hq n = let e = long l.second hq in absurd (omega arith)
       go false false hp hq n = refl
@@ -106,10 +106,10 @@ module _ (l : Lent) (a : ℕ) (e : List ℕ) (he : e ≡ part_of l a 8) where
   pub load_part : (v : Load) → v ≡ load_of e → v ≡ memory l a
   load_part v hv = hv ∙ go (ltb (length e) 8) refl
     where
-      go : (b : Bool) → ltb (length e) 8 ≡ b → pick b Violation (Value (doubleword e 0)) ≡ memory l a
+      go : (b : Bool) → ltb (length e) 8 ≡ b → pick b None (Some (doubleword e 0)) ≡ memory l a
       go true t = whole-none l a 8 a 0 same (omega arith) refl refl (subst (λ (x : List ℕ). length x < 8) he (ltb-true (length e) 8 t))
       go false t =
-          ap (λ x. Value (doubleword x 0)) he ∙ whole_word l a 8 a 0 same (omega arith) refl refl (subst (λ (x : List ℕ). 8 ≤ length x) he (ltb-false (length e) 8 t))
+          ap (λ x. Some (doubleword x 0)) he ∙ whole_word l a 8 a 0 same (omega arith) refl refl (subst (λ (x : List ℕ). 8 ≤ length x) he (ltb-false (length e) 8 t))
 
 -- the part has all its bytes where a window holds them
 module _ (starts : Starts) (xs ys : List ℕ) (a size : ℕ) where

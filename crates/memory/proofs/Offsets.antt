@@ -5,8 +5,8 @@ use Rattle.memory.specs.Choice.{pick}
 use Rattle.memory.specs.Window.{inside, doubleword, window_at, lent, part_in, part_of, load_in}
 use Rattle.memory.specs.Code.{Walkable, part_at, load_of, load_at}
 use Rattle.memory.specs.declared.Starts.{Starts}
-use Rattle.memory.specs.declared.Load.{Load}
-use Rattle.memory.specs.declared.Load.TheVariants.{Value, Violation}
+use Rattle.memory.specs.Load.{Load}
+use Rattle.std.specs.Prelude.{Some, None}
 use Rattle.memory.proofs.Choices.{yes-is, no-is}
 use Rattle.memory.proofs.Loads.{held_low, held_high, part-word, part-long}
 
@@ -29,11 +29,11 @@ module _ (xs : List ℕ) (d size r : ℕ) (some : 0 < size) (hr : r ≡ length x
 pub ruleset part_ways = (at_held, at_none, part_fits, part_end)
 
 -- the doubleword in an entry's bytes
-pub loaded-none : (e : List ℕ) → length e < 8 → Violation ≡ load_of e
+pub loaded-none : (e : List ℕ) → length e < 8 → None ≡ load_of e
 loaded-none e h = yes-is (ltb (length e) 8) _ _ _ (lt-ltb (length e) 8 h) refl
 
-pub loaded_word : (e : List ℕ) (v : ℕ) → 8 ≤ length e → v ≡ doubleword e 0 → Value v ≡ load_of e
-loaded_word e v h hv = ap Value hv ∙ no-is (ltb (length e) 8) _ _ _ (le-ltb (length e) 8 h) refl
+pub loaded_word : (e : List ℕ) (v : ℕ) → 8 ≤ length e → v ≡ doubleword e 0 → Some v ≡ load_of e
+loaded_word e v h hv = ap Some hv ∙ no-is (ltb (length e) 8) _ _ _ (le-ltb (length e) 8 h) refl
 
 pub ruleset loaded_ways = (loaded-none, loaded_word)
 
@@ -41,11 +41,11 @@ pub ruleset loaded_ways = (loaded-none, loaded_word)
 pub load_at-part : (xs e : List ℕ) (d : ℕ) (v : Load) → e ≡ part_at xs d 8 → v ≡ load_of e → v ≡ load_at xs d
 load_at-part xs e d v he hv = hv ∙ ap load_of he ∙ go (leb (d + 8) (length xs)) refl
   where
-    go : (b : Bool) → leb (d + 8) (length xs) ≡ b → load_of (pick b (take 8 (drop d xs)) []) ≡ pick b (Value (doubleword xs d)) Violation
+    go : (b : Bool) → leb (d + 8) (length xs) ≡ b → load_of (pick b (take 8 (drop d xs)) []) ≡ pick b (Some (doubleword xs d)) None
     go true t =
         let l = part-long xs d 8 (leb-true (d + 8) (length xs) t) in
         sym (no-is (ltb (length (take 8 (drop d xs))) 8) _ _ _ (le-ltb (length (take 8 (drop d xs))) 8 (omega (arith, l))) refl)
-        ∙ ap Value (part-word xs d 8 0 (omega arith) ∙ ap (doubleword xs) (add-zero d))
+        ∙ ap Some (part-word xs d 8 0 (omega arith) ∙ ap (doubleword xs) (add-zero d))
     go false t = refl
 
 -- the load at an offset is the window's load at the address
@@ -53,24 +53,24 @@ module _ (start d : ℕ) (xs : List ℕ) (end : start + length xs ≤ 2 ^ 64) (h
   abbrev at : ℕ
   at = (d + start) % 2 ^ 64
 
-  pub offset-load : load_at xs d ≡ load_in (window_at start xs) at Violation
+  pub offset-load : load_at xs d ≡ load_in (window_at start xs) at None
   offset-load = go (leb (d + 8) (length xs)) refl
     where
-      beyond : length xs < d + 8 → (b : Bool) → inside start (length xs) at 8 ≡ b → Violation ≡ pick b (Value (doubleword xs (at - start))) Violation
+      beyond : length xs < d + 8 → (b : Bool) → inside start (length xs) at 8 ≡ b → None ≡ pick b (Some (doubleword xs (at - start))) None
       beyond h true t =
           let lo = held_low start (length xs) at 8 true (sym t) refl in
           let hi = held_high start (length xs) at 8 true (sym t) refl in
           absurd (omega arith)
       beyond h false t = refl
 
-      go : (b : Bool) → leb (d + 8) (length xs) ≡ b → pick b (Value (doubleword xs d)) Violation ≡ load_in (window_at start xs) at Violation
+      go : (b : Bool) → leb (d + 8) (length xs) ≡ b → pick b (Some (doubleword xs d)) None ≡ load_in (window_at start xs) at None
       go true t =
           let h = leb-true (d + 8) (length xs) t in
           let e : at ≡ d + start = omega arith in
           let i : d ≡ at - start = omega arith in
           let lo : start ≤ at = omega arith in
           let hi : at + 8 ≤ start + length xs = omega arith in
-          ap (λ n. Value (doubleword xs n)) i ∙ simp (le-leb start at lo, le-leb (at + 8) (start + length xs) hi)
+          ap (λ n. Some (doubleword xs n)) i ∙ simp (le-leb start at lo, le-leb (at + 8) (start + length xs) hi)
       go false t = beyond (leb-false (d + 8) (length xs) t) (inside start (length xs) at 8) refl
 
 -- the part at an offset is the window's at the address

@@ -3,7 +3,7 @@ use Rattle.std.proofs.Common.{◌≡◌, ℕ, ◌+◌, ◌*◌, ◌/◌, ◌%◌
 use Rattle.memory.specs.Window.{inside, doubleword, lent, holds, part_of, memory}
 use Rattle.memory.specs.Code.{Paged}
 use Rattle.memory.specs.declared.Starts.{Starts}
-use Rattle.memory.specs.declared.Load.TheVariants.{Value, Violation}
+use Rattle.std.specs.Prelude.{Some, None}
 use Rattle.memory.proofs.Loads.{whole_word, whole-none}
 
 leb-same : (a b c d : ℕ) → (a ≤ b → c ≤ d) → (c ≤ d → a ≤ b) → leb a b ≡ leb c d
@@ -77,8 +77,8 @@ module _ (starts : Starts) (xs ys : List ℕ) (paged : Paged starts (length xs) 
       ∙ whole size c page starts.second (length ys) i k 8 paged.2 paged.3 (omega arith) room
       ∙ ap (λ b. inside starts.second (length ys) b size) (sym at)
 
-  pub paged-word : size ≤ length (part_of (lent starts xs ys) a size) → Value (doubleword (part_of (lent starts xs ys) a size) k) ≡ memory (lent starts xs ys) (a + k)
+  pub paged-word : size ≤ length (part_of (lent starts xs ys) a size) → Some (doubleword (part_of (lent starts xs ys) a size) k) ≡ memory (lent starts xs ys) (a + k)
   paged-word h = whole_word (lent starts xs ys) a size (a + k) k refl room in_first_lem in_second h
 
-  pub paged-none : length (part_of (lent starts xs ys) a size) < size → Violation ≡ memory (lent starts xs ys) (a + k)
+  pub paged-none : length (part_of (lent starts xs ys) a size) < size → None ≡ memory (lent starts xs ys) (a + k)
   paged-none h = whole-none (lent starts xs ys) a size (a + k) k refl room in_first_lem in_second h

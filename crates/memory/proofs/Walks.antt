@@ -1,8 +1,8 @@
 -- Laws of walks, each once for every walk. Assumes nothing.
 use Rattle.std.proofs.Common.{◌≡◌, ℕ, Bool, true, false, List, [], ◌∷◌, ◌++◌, sym, refl, ap, ◌∙◌}
 use Rattle.memory.specs.Choice.{pick}
-use Rattle.memory.specs.declared.Load.{Load}
-use Rattle.memory.specs.declared.Load.TheVariants.{Value, Violation}
+use Rattle.memory.specs.Load.{Load}
+use Rattle.std.specs.Prelude.{Some, None}
 use Rattle.memory.specs.Walk.{Walk, done, load, bind, run, trace, on_value, load_or}
 
 -- a composed walk's result, and the addresses that it reads
@@ -16,7 +16,7 @@ trace-bind m (load p k) f = ap (λ t. p ∷ t) (trace-bind m (k (m p)) f)
 
 -- a memory has a doubleword at an address
 abbrev pub Read : (ℕ → Load) → ℕ → Type 0
-Read m a = (v : ℕ) × (m a ≡ Value v)
+Read m a = (v : ℕ) × (m a ≡ Some v)
 
 -- what holds of a walk's result, by its steps
 module _ {A : Type 0} (m : ℕ → Load) (P : A → Type 0) where
@@ -24,12 +24,12 @@ module _ {A : Type 0} (m : ℕ → Load) (P : A → Type 0) where
   run-pick true v w h k = h
   run-pick false v w h k = k
 
-  pub run-load : (fault : Walk A) (a : ℕ) (next : ℕ → Walk A) → P (run m fault) → ((v : ℕ) → m a ≡ Value v → P (run m (next v))) → P (run m (load_or fault a next))
+  pub run-load : (fault : Walk A) (a : ℕ) (next : ℕ → Walk A) → P (run m fault) → ((v : ℕ) → m a ≡ Some v → P (run m (next v))) → P (run m (load_or fault a next))
   run-load fault a next h k = go (m a) refl
     where
       go : (u : Load) → m a ≡ u → P (run m (on_value fault next u))
-      go (Value v) e = k v e
-      go Violation e = h
+      go (Some v) e = k v e
+      go None e = h
 
 -- two memories have the same doubleword at each address of a list
 pub data Agree (m n : ℕ → Load) : List ℕ → Type 0 where

@@ -1,10 +1,10 @@
 -- Nothing here has to be believed: windows that a walk may go through, a doubleword's bytes, a window's doublewords by their offsets, and two windows in the other order.
 use Rattle.std.specs.Prelude.{◌≡◌, ℕ, ◌+◌, ◌/◌, ◌%◌, ◌^◌, ◌≤◌, true, List, [], ◌∷◌, length, take, drop, ◌≢◌, nat_le, nat_lt}
 use Rattle.memory.specs.Choice.{pick}
-use Rattle.memory.specs.Window.{inside, doubleword}
+use Rattle.memory.specs.Window.{Lent, inside, doubleword}
 use Rattle.memory.specs.declared.Starts.{Starts}
-use Rattle.memory.specs.declared.Load.{Load}
-use Rattle.memory.specs.declared.Load.TheVariants.{Value, Violation}
+use Rattle.memory.specs.Load.{Load}
+use Rattle.std.specs.Prelude.{Some, None}
 
 -- both windows are whole pages; n and m are their lengths
 abbrev pub Paged : Starts → ℕ → ℕ → Type 0
@@ -21,6 +21,10 @@ pub record Walkable (starts : Starts) (n m : ℕ) : Type 0 where
   pub second_end : starts.second + m ≤ 2 ^ 64
   pub apart : Disjoint starts n m
 
+-- the same of what is lent
+abbrev pub Sound : Lent → Type 0
+Sound l = Walkable (record { first = l.first.start; second = l.second.start }) (length l.first.bytes) (length l.second.bytes)
+
 -- the eight bytes of a doubleword, the lowest first
 unfoldable pub eight : ℕ → List ℕ
 eight v =
@@ -33,10 +37,10 @@ part_at bytes d size = pick (nat_le (d + size) (length bytes)) (take size (drop 
 
 -- the doubleword in an entry's bytes, and at an offset of a window
 abbrev pub load_of : List ℕ → Load
-load_of bytes = pick (nat_lt (length bytes) 8) Violation (Value (doubleword bytes 0))
+load_of bytes = pick (nat_lt (length bytes) 8) None (Some (doubleword bytes 0))
 
 abbrev pub load_at : List ℕ → ℕ → Load
-load_at bytes d = pick (nat_le (d + 8) (length bytes)) (Value (doubleword bytes d)) Violation
+load_at bytes d = pick (nat_le (d + 8) (length bytes)) (Some (doubleword bytes d)) None
 
 -- the starts in the other order
 abbrev pub turned_starts : Starts → Starts

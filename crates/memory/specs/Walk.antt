@@ -1,7 +1,7 @@
 -- A walk: loads, each at an address that earlier ones decide, and a result. Every table that a request reads is read so.
 use Rattle.std.specs.Prelude.{ℕ, List, [], ◌∷◌}
-use Rattle.memory.specs.declared.Load.{Load}
-use Rattle.memory.specs.declared.Load.TheVariants.{Value, Violation}
+use Rattle.memory.specs.Load.{Load}
+use Rattle.std.specs.Prelude.{Some, None}
 
 pub data Walk (A : Type 0) : Type 0 where
   done : A → Walk A
@@ -24,8 +24,8 @@ trace m (load p k) = p ∷ trace m (k (m p))
 
 -- what follows a load: `fault` where it is a violation
 abbrev pub on_value : {A : Type 0} → Walk A → (ℕ → Walk A) → Load → Walk A
-on_value fault k (Value v) = k v
-on_value fault k Violation = fault
+on_value fault k (Some v) = k v
+on_value fault k None = fault
 
 -- the doubleword at an address handed on, or `fault` where it can't be read
 abbrev pub load_or : {A : Type 0} → Walk A → ℕ → (ℕ → Walk A) → Walk A

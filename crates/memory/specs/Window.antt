@@ -2,8 +2,8 @@
 use Rattle.std.specs.Prelude.{◌≡◌, ℕ, ◌+◌, ◌-◌, ◌*◌, Bool, ◌&&◌, List, [], length, take, drop, nat_le, slice_index}
 use Rattle.memory.specs.Choice.{pick}
 use Rattle.memory.specs.declared.Starts.{Starts}
-use Rattle.memory.specs.declared.Load.{Load}
-use Rattle.memory.specs.declared.Load.TheVariants.{Value, Violation}
+use Rattle.memory.specs.Load.{Load}
+use Rattle.std.specs.Prelude.{Some, None}
 
 -- all of `size` bytes from address a lie in a window of `length` bytes from `start`
 abbrev pub inside : ℕ → ℕ → ℕ → ℕ → Bool
@@ -62,7 +62,7 @@ part_of l a size = part_in l.first a size (part_in l.second a size [])
 
 -- the doubleword at address a; "A load outside the window counts as an access violation", and "Loads .. consider both"
 abbrev pub load_in : Window → ℕ → Load → Load
-load_in w a other = pick (holds w a 8) (Value (doubleword w.bytes (a - w.start))) other
+load_in w a other = pick (holds w a 8) (Some (doubleword w.bytes (a - w.start))) other
 
 unfoldable pub memory : Lent → ℕ → Load
-memory l a = load_in l.first a (load_in l.second a Violation)
+memory l a = load_in l.first a (load_in l.second a None)

@@ -1,45 +1,42 @@
-// The two lent windows as memory.
+// The two lent windows as memory. What one number keeps to (a size above 0, a bit below 64) stands in clauses, here and in the crates above: a type for a number is no plainer.
 #![tactic(auto)]
 
 ghost use Rattle.std.specs.Prelude.{◌≡◌, ◌+◌, ◌-◌, ◌%◌, ◌^◌, ◌<◌, ◌≤◌, length};
 ghost use Rattle.memory.specs.Bits.{bit as bit_of, bits, any_set};
-ghost use Rattle.memory.specs.Window.{inside, little, doubleword, lent, part_of, memory};
-ghost use Rattle.memory.specs.Code.{Walkable, eight, part_at, load_of, load_at, turned_starts};
+ghost use Rattle.memory.specs.Window.{Lent, inside, doubleword, lent, part_of, memory};
+ghost use Rattle.memory.specs.Code.{Walkable, Sound, eight, part_at, load_of, load_at, turned_starts};
+
+use std::marker::Model;
 
 // Where the two windows start.
-#[derive(Clone, Copy)]
+#[derive(Clone, Copy, Debug, PartialEq, Eq)]
 pub struct Starts {
     pub first: u64,
     pub second: u64,
 }
 
-// A doubleword that was read, or an access violation.
-#[derive(Clone, Copy)]
-pub enum Load {
-    Value(u64),
-    Violation,
+// Both windows, as the checks before a walk leave them. Clauses see what is lent.
+#[derive(Drop)]
+pub struct Windows<'a> {
+    pub starts: Starts,
+    pub first: &'a [u8],
+    pub second: &'a [u8],
 }
 
-// The little-endian number of eight bytes: this form becomes one machine load.
-fn little64(b0: u8, b1: u8, b2: u8, b3: u8, b4: u8, b5: u8, b6: u8, b7: u8) -> u64
-    ensures { result ≡ little b0 b1 b2 b3 b4 b5 b6 b7 }
-{
-    b0 as u64
-        + 256 * (b1 as u64)
-        + 65536 * (b2 as u64)
-        + 16777216 * (b3 as u64)
-        + 4294967296 * (b4 as u64)
-        + 1099511627776 * (b5 as u64)
-        + 281474976710656 * (b6 as u64)
-        + 72057594037927936 * (b7 as u64)
+impl<'a> Model for Windows<'a> {
+    ghost Value = { Lent };
+
+    ghost view = { λ w. lent w.starts w.first.now w.second.now };
+
+    ghost invariant = { λ w. Walkable w.starts (length w.first.now) (length w.second.now) };
 }
 
-// The doubleword at an index of the lent bytes.
+// The doubleword at an index of the lent bytes: this form becomes one machine load.
 pub fn doubleword_at(bytes: &[u8], i: usize) -> u64
     requires { i + 8 ≤ length bytes.now }
     ensures { result ≡ doubleword bytes.now i }
 {
-    little64(
+    u64::from_le_bytes([
         bytes[i],
         bytes[i + 1],
         bytes[i + 2],
@@ -48,22 +45,16 @@ pub fn doubleword_at(bytes: &[u8], i: usize) -> u64
         bytes[i + 5],
         bytes[i + 6],
         bytes[i + 7],
-    )
+    ])
 }
 
 // Puts a doubleword into eight bytes, the lowest first: this form becomes one machine store.
+#[tactic(auto, unfolding(crate::specs::Code::eight))]
 pub fn put_doubleword(bytes: &mut [u8], v: u64)
     requires { length bytes.old ≡ 8 }
     ensures { bytes.new ≡ eight v }
 {
-    bytes[0] = (v % 256) as u8;
-    bytes[1] = (v / 256 % 256) as u8;
-    bytes[2] = (v / 65536 % 256) as u8;
-    bytes[3] = (v / 16777216 % 256) as u8;
-    bytes[4] = (v / 4294967296 % 256) as u8;
-    bytes[5] = (v / 1099511627776 % 256) as u8;
-    bytes[6] = (v / 281474976710656 % 256) as u8;
-    bytes[7] = (v / 72057594037927936 % 256) as u8;
+    bytes.copy_from_slice(&v.to_le_bytes());
 }
 
 // The starts in the other order.
@@ -121,41 +112,44 @@ fn part<'a>(window: &'a [u8], d: u64, size: u64) -> &'a [u8]
     &window[0..0]
 }
 
-// The bytes of an entry, as a part of whichever window holds it; none where neither does. The second window is looked at only where the first doesn't hold it.
-pub fn entry<'a>(starts: Starts, first: &'a [u8], second: &'a [u8], a: u64, size: u64) -> &'a [u8]
-    requires { (0 < size) × Walkable starts (length first.now) (length second.now) }
-    ensures { result.now ≡ part_of (lent starts first.now second.now) a size }
-{
-    let bytes = part(first, offset(starts.first, a), size);
-    if (bytes.len() as u64) < size {
-        return part(second, offset(starts.second, a), size);
-    }
-    bytes
-}
-
-// The doubleword in the bytes of an entry, or a violation where there are none.
-fn loaded(bytes: &[u8]) -> Load
+// The doubleword in the bytes of an entry; none, an access violation, where there are no bytes.
+fn loaded(bytes: &[u8]) -> Option<u64>
     ensures { result ≡ load_of bytes.now }
 {
     if bytes.len() < 8 {
-        return Load::Violation;
+        return None;
     }
-    Load::Value(doubleword_at(bytes, 0))
-}
-
-// The doubleword at an address.
-pub fn load64<'a>(starts: Starts, first: &'a [u8], second: &'a [u8], a: u64) -> Load
-    requires { Walkable starts (length first.now) (length second.now) }
-    ensures { result ≡ memory (lent starts first.now second.now) a }
-{
-    loaded(entry(starts, first, second, a, 8))
+    Some(doubleword_at(bytes, 0))
 }
 
 // The doubleword at an offset of one window, for a walk that stands in it.
-pub fn load_at(window: &[u8], d: u64) -> Load
+pub fn load_at(window: &[u8], d: u64) -> Option<u64>
     ensures { result ≡ load_at window.now d }
 {
     loaded(part(window, d, 8))
+}
+
+impl<'a> Windows<'a> {
+    // The bytes of an entry, as a part of whichever window holds it; none where neither does. The second window is looked at only where the first doesn't hold it.
+    pub fn entry(&self, a: u64, size: u64) -> &'a [u8]
+        requires { 0 < size }
+        ensures bytes { result.now ≡ part_of self.now a size }
+        ensures windows { Sound self.now }
+    {
+        let bytes = part(self.first, offset(self.starts.first, a), size);
+        if (bytes.len() as u64) < size {
+            return part(self.second, offset(self.starts.second, a), size);
+        }
+        bytes
+    }
+
+    // The doubleword at an address.
+    #[tactic(auto, using(crate::proofs::Loads::load_part))]
+    pub fn load64(&self, a: u64) -> Option<u64>
+        ensures { result ≡ memory self.now a }
+    {
+        loaded(self.entry(a, 8))
+    }
 }
 
 // Bit k of a doubleword is 1.

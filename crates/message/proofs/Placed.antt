@@ -1,4 +1,5 @@
 -- Where the entry of a recorded message lies, and its file. Assumes nothing.
+use Rattle.std.specs.Prelude.{Err, Ok}
 use Prim.Native.Nat.{ℕ, ◌+◌, ◌*◌, ◌%◌}
 use mathlib.Core.Bool.{Bool, true, false}
 use mathlib.Core.Path.{◌≡◌}
@@ -6,22 +7,22 @@ use native.Mathlib.Omega.{arith}
 use lib.Dec.{eqb}
 use Rattle.memory.specs.Choice.{pick}
 use Rattle.memory.specs.Bits.{bits, bit}
-use Rattle.memory.specs.declared.Load.{Load}
+use Rattle.memory.specs.Load.{Load}
 use Rattle.memory.specs.Walk.{run}
 use Rattle.memory.proofs.Walks.{Read, run-pick, run-load}
 use Rattle.causes.specs.declared.Access.{Access}
 use Rattle.causes.specs.declared.Access.TheVariants.{Read as Reading, Write, Execute}
 use Rattle.message.specs.declared.Message.{Message}
 use Rattle.message.specs.declared.Message.TheVariants.{Redirect, Record}
-use Rattle.message.specs.Table.{table_fault, alignment, permitted, translate_reserved, record_reserved, destination_of, redirected, on_translate, on_notice, on_message_entry, message_entry_at, message_of}
+use Rattle.message.specs.Table.{MessageFound, table_fault, alignment, permitted, translate_reserved, record_reserved, destination_of, redirected, on_translate, on_notice, on_message_entry, message_entry_at, message_of}
 
 -- a file is at a multiple of 512, and its entry at a multiple of 16, and was read
-abbrev pub EntryPlaced : (ℕ → Load) → Message → Type 0
-EntryPlaced m (Record d at) = (d.file % 512 ≡ 0) × (at % 16 ≡ 0) × Read m at
-EntryPlaced m (Redirect a) = Unit {0}
-EntryPlaced m (Message.Fault f) = Unit {0}
+abbrev pub EntryPlaced : (ℕ → Load) → MessageFound → Type 0
+EntryPlaced m (Ok (Record d at)) = (d.file % 512 ≡ 0) × (at % 16 ≡ 0) × Read m at
+EntryPlaced m (Ok (Redirect a)) = Unit {0}
+EntryPlaced m (Err f) = Unit {0}
 
-permitted-placed : (m : ℕ → Load) (x : Access) (k : Message) → EntryPlaced m k → EntryPlaced m (permitted x k)
+permitted-placed : (m : ℕ → Load) (x : Access) (k : Message) → EntryPlaced m (Ok k) → EntryPlaced m (permitted x k)
 permitted-placed m Reading k h = h
 permitted-placed m Write k h = h
 permitted-placed m Execute k h = tt

@@ -1,6 +1,8 @@
 -- The message table and its entries (000, 8.1.5; 003, "Process to translate addresses of MSIs", steps 6 to 15; 01, "Messages").
-use Rattle.std.specs.Prelude.{ℕ, ◌+◌, ◌*◌, ◌%◌, ◌^◌, max, Bool, [], ◌∷◌, eqb}
+use Rattle.std.specs.Prelude.{ℕ, ◌+◌, ◌*◌, ◌%◌, ◌^◌, max, Bool, [], ◌∷◌, eqb, Ok, Err}
 use Rattle.std.specs.Int.Count.{ones}
+use Rattle.std.specs.declared.result.Result.{Result}
+use Rattle.causes.specs.declared.FaultInfo.{FaultInfo}
 use Rattle.memory.specs.Choice.{pick, any}
 use Rattle.memory.specs.Bits.{bits, bit, any_set}
 use Rattle.memory.specs.Walk.{Walk, done, load_or}
@@ -10,22 +12,26 @@ use Rattle.causes.specs.declared.Access.TheVariants.{Read, Write, Execute}
 use Rattle.causes.specs.declared.Stage.TheVariants.{MessageTable}
 use Rattle.message.specs.declared.Destination.{Destination}
 use Rattle.message.specs.declared.Message.{Message}
-use Rattle.message.specs.declared.Message.TheVariants.{Redirect, Record, Fault}
+use Rattle.message.specs.declared.Message.TheVariants.{Redirect, Record}
 use Rattle.message_recognition.specs.Recognition.{file_number}
 
+-- what a message is told: where it goes, or a fault
+abbrev pub MessageFound : Type 0
+MessageFound = Result Message FaultInfo
+
 -- "message table for 261 to 263 and cause 1 at a message entry"
-abbrev pub table_fault : ℕ → Message
-table_fault cause = Fault (fault_at MessageTable cause)
+abbrev pub table_fault : ℕ → MessageFound
+table_fault cause = Err (fault_at MessageTable cause)
 
 -- "With k ones in the mask the table needs alignment to the larger of 4,096 and 16 x 2^k"
 abbrev pub alignment : ℕ → ℕ
 alignment mask = max 4096 (16 * 2 ^ ones mask)
 
 -- "Then read-for-execute is cause 1": an entry permits reads and writes (003, step 15)
-abbrev pub permitted : Access → Message → Message
+abbrev pub permitted : Access → Message → MessageFound
 permitted Execute m = table_fault (access_fault Execute)
-permitted Read m = m
-permitted Write m = m
+permitted Read m = Ok m
+permitted Write m = Ok m
 
 -- "Reserved bits: 9:3 and 62:54 for M = 3"
 unfoldable pub translate_reserved : ℕ → Bool
@@ -49,14 +55,14 @@ destination_of e n =
     }
 
 -- what the second doubleword of an M = 1 entry leads to; the entry's address goes with it, since Req 06 asks for its page
-unfoldable pub on_notice : Access → ℕ → ℕ → ℕ → Message
+unfoldable pub on_notice : Access → ℕ → ℕ → ℕ → MessageFound
 on_notice x at e n = pick (record_reserved e n) (table_fault 263) (permitted x (Record (destination_of e n) at))
 
-unfoldable pub on_translate : Access → ℕ → ℕ → Message
+unfoldable pub on_translate : Access → ℕ → ℕ → MessageFound
 on_translate x a e = pick (translate_reserved e) (table_fault 263) (permitted x (Redirect (redirected e a)))
 
 -- "V = 0 262; C = 1, M = 0 or 2, or a reserved bit 263". The second doubleword is read for M = 1 alone (D13)
-unfoldable pub on_message_entry : Access → ℕ → ℕ → ℕ → Walk Message
+unfoldable pub on_message_entry : Access → ℕ → ℕ → ℕ → Walk MessageFound
 on_message_entry x a at e =
     pick (bit e 0)
     (pick (bit e 63)
@@ -73,7 +79,7 @@ abbrev pub message_entry_at : ℕ → ℕ → ℕ → ℕ
 message_entry_at page mask a = page * 4096 + 16 * file_number mask a
 
 -- a message to guest address a, by the table at a page: "misaligned is answered 263 without a load"; "Load 261"
-unfoldable pub message_of : ℕ → ℕ → Access → ℕ → Walk Message
+unfoldable pub message_of : ℕ → ℕ → Access → ℕ → Walk MessageFound
 message_of page mask x a =
     pick (eqb (page * 4096 % alignment mask) 0)
     (load_or (done (table_fault 261)) (message_entry_at page mask a) (on_message_entry x a (message_entry_at page mask a)))

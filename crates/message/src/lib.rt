@@ -2,28 +2,27 @@
 #![tactic(auto)]
 
 ghost use Rattle.std.specs.Prelude.{◌≡◌, ◌*◌, ◌%◌, ◌^◌, ◌<◌, length, eqb};
-ghost use Rattle.memory.specs.Window.{lent, memory};
+ghost use Rattle.memory.specs.Window.{memory};
 ghost use Rattle.memory.specs.Walk.{run};
-ghost use Rattle.memory.specs.Code.{Walkable};
 ghost use Rattle.message.specs.Table.{alignment, table_fault, permitted as permitted_of, translate_reserved, record_reserved, destination_of, on_translate, on_notice, on_message_entry, message_of};
 
 use causes::{Access, FaultInfo, Stage};
-use memory::{Load, Starts};
+use memory::Windows;
+use message_recognition::MessageTable;
 
 // Where an entry in MRIF mode has a message recorded, and the notice that it asks for: a number to be written at an address.
-#[derive(Clone, Copy)]
+#[derive(Clone, Copy, Debug, PartialEq, Eq)]
 pub struct Destination {
     pub file: u64,
     pub notice: u64,
     pub number: u64,
 }
 
-// What a message entry says; one in MRIF mode with its own address.
-#[derive(Clone, Copy)]
+// What a message entry says; one in MRIF mode with its own address. Neither case is a failure.
+#[derive(Clone, Copy, Debug, PartialEq, Eq)]
 pub enum Message {
     Redirect(u64),
     Record(Destination, u64),
-    Fault(FaultInfo),
 }
 
 // Whether a table at a page is aligned for as many files as the mask can number.
@@ -39,27 +38,27 @@ fn aligned(page: u64, mask: u64) -> bool
 }
 
 // A fault of the table: 261 where it can't be read, 262 for an entry that isn't valid, 263 for a misconfigured one, 1 for read-for-execute.
-fn table_fault(cause: u64) -> Message
+fn table_fault(cause: u64) -> Result<Message, FaultInfo>
     ensures { result ≡ table_fault cause }
 {
-    Message::Fault(FaultInfo {
-        cause: cause,
+    Err(FaultInfo {
+        cause,
         stage: Stage::MessageTable,
     })
 }
 
 // An entry permits reads and writes.
-fn permitted(x: Access, m: Message) -> Message
+fn permitted(x: Access, m: Message) -> Result<Message, FaultInfo>
     ensures { result ≡ permitted_of x m }
 {
     match x {
         Access::Execute => table_fault(1),
-        Access::Read => m,
-        Access::Write => m,
+        Access::Read | Access::Write => Ok(m),
     }
 }
 
 // Bits 9:3 and 62:54.
+#[tactic(auto, using(memory::proofs::Tests::tests), unfolding(crate::specs::Table::translate_reserved))]
 fn translate_reserved(e: u64) -> bool
     ensures { result ≡ translate_reserved e }
 {
@@ -67,6 +66,7 @@ fn translate_reserved(e: u64) -> bool
 }
 
 // Bits 6:3 and 62:54 of the first doubleword, 59:54 and 63:61 of the second.
+#[tactic(auto, using(memory::proofs::Tests::or4), unfolding(crate::specs::Table::record_reserved))]
 fn record_reserved(e: u64, n: u64) -> bool
     ensures { result ≡ record_reserved e n }
 {
@@ -88,7 +88,8 @@ fn destination_of(e: u64, n: u64) -> Destination
 }
 
 // A redirected message keeps its place in the page.
-fn on_translate(x: Access, a: u64, e: u64) -> Message
+#[tactic(auto, using(memory::proofs::Choices::flags, crate::proofs::Entries::redirects), unfolding(crate::specs::Table::on_translate))]
+fn on_translate(x: Access, a: u64, e: u64) -> Result<Message, FaultInfo>
     ensures { result ≡ on_translate x a e }
 {
     if translate_reserved(e) {
@@ -101,7 +102,8 @@ fn on_translate(x: Access, a: u64, e: u64) -> Message
 }
 
 // A recorded message, by its entry's address and both doublewords.
-fn on_notice(x: Access, at: u64, e: u64, n: u64) -> Message
+#[tactic(auto, using(crate::proofs::Entries::recorded, memory::proofs::Choices::flags), unfolding(crate::specs::Table::on_notice))]
+fn on_notice(x: Access, at: u64, e: u64, n: u64) -> Result<Message, FaultInfo>
     ensures { result ≡ on_notice x at e n }
 {
     if record_reserved(e, n) {
@@ -111,17 +113,10 @@ fn on_notice(x: Access, at: u64, e: u64, n: u64) -> Message
 }
 
 // What an entry says; the second doubleword is read in MRIF mode alone.
-fn on_message_entry<'a>(
-    x: Access,
-    a: u64,
-    starts: Starts,
-    first: &'a [u8],
-    second: &'a [u8],
-    at: u64,
-    e: u64,
-) -> Message
-    requires { (at < 2 ^ 57) × Walkable starts (length first.now) (length second.now) }
-    ensures { result ≡ run (memory (lent starts first.now second.now)) (on_message_entry x a at e) }
+#[tactic(auto, using(crate::proofs::Entries::entries))]
+fn on_message_entry(x: Access, a: u64, w: &Windows, at: u64, e: u64) -> Result<Message, FaultInfo>
+    requires { (at < 2 ^ 57) }
+    ensures { result ≡ run (memory w.now) (on_message_entry x a at e) }
 {
     if !memory::bit(e, 0) {
         return table_fault(262);
@@ -129,38 +124,29 @@ fn on_message_entry<'a>(
     if memory::bit(e, 63) {
         return table_fault(263);
     }
-    let mode = memory::field(e, 2, 1);
-    if mode == 3 {
-        return on_translate(x, a, e);
+    match memory::field(e, 2, 1) {
+        1 => {
+            let Some(n) = w.load64(at + 8) else {
+                return table_fault(261);
+            };
+            on_notice(x, at, e, n)
+        }
+        3 => on_translate(x, a, e),
+        _ => table_fault(263),
     }
-    if mode != 1 {
-        return table_fault(263);
-    }
-    let Load::Value(n) = memory::load64(starts, first, second, at + 8) else {
-        return table_fault(261);
-    };
-    on_notice(x, at, e, n)
 }
 
-// What the table at a page says of a message to a guest address.
-pub fn message_of<'a>(
-    page: u64,
-    mask: u64,
-    x: Access,
-    starts: Starts,
-    first: &'a [u8],
-    second: &'a [u8],
-    a: u64,
-) -> Message
-    requires { (page < 2 ^ 44) × (mask < 2 ^ 52) × Walkable starts (length first.now) (length second.now) }
-    ensures { result ≡ run (memory (lent starts first.now second.now)) (message_of page mask x a) }
+// What the table says of a message to a guest address.
+#[tactic(auto, using(crate::proofs::Entries::messages))]
+pub fn message_of(t: MessageTable, x: Access, w: &Windows, a: u64) -> Result<Message, FaultInfo>
+    ensures { result ≡ run (memory w.now) (message_of t.page t.mask x a) }
 {
-    if !aligned(page, mask) {
+    if !aligned(t.page, t.mask) {
         return table_fault(263);
     }
-    let at = page * 4096 + 16 * message_recognition::extract(a / 4096, mask);
-    let Load::Value(e) = memory::load64(starts, first, second, at) else {
+    let at = t.page * 4096 + 16 * message_recognition::extract(a / 4096, t.mask);
+    let Some(e) = w.load64(at) else {
         return table_fault(261);
     };
-    on_message_entry(x, a, starts, first, second, at, e)
+    on_message_entry(x, a, w, at, e)
 }

@@ -3,7 +3,28 @@
 
 ghost use Rattle.std.specs.Prelude.{◌≡◌, ◌^◌, ◌<◌};
 ghost use Rattle.message_recognition.specs.Recognition.{recognised as recognised_of, extract as extract_of};
+ghost use Rattle.message_recognition.specs.Table.{Messages};
 ghost use Rattle.message_recognition.specs.Code.{Ready, round_of, Packs};
+
+use std::marker::Model;
+
+// A device's messages: their table's page, and how they are recognised. A root is a page of 44 bits, and a mask has the bits of a guest page number.
+#[derive(Clone, Copy)]
+pub struct MessageTable {
+    pub page: u64,
+    pub mask: u64,
+    pub pattern: u64,
+}
+
+impl Model for MessageTable {
+    ghost Value = { Messages };
+
+    ghost view = { λ t. record { page = t.page; mask = t.mask; pattern = t.pattern } };
+
+    ghost inverse = { λ t. record { page = t.page; mask = t.mask; pattern = t.pattern } };
+
+    ghost invariant = { λ t. (t.page < 2 ^ 44) × (t.mask < 2 ^ 52) };
+}
 
 // Packing under way: the number so far, how many of its places are taken, and the ones of the mask that are left.
 #[derive(Clone, Copy)]
@@ -21,6 +42,7 @@ struct Counted {
 }
 
 // Whether a guest address is one of a virtual interrupt file: its page number has the pattern in each bit that the mask leaves out.
+#[tactic(auto, unfolding(crate::specs::Recognition::recognised))]
 pub fn recognised(mask: u64, pattern: u64, a: u64) -> bool
     ensures { result ≡ recognised_of mask pattern a }
 {
@@ -41,11 +63,11 @@ fn round(x: u64, p: Packing) -> Packing
     Packing {
         number: p.number + ((x & run) >> (start - p.used)),
         used: p.used + (end - start),
-        rest: rest,
+        rest,
     }
 }
 
-// The bits of x that the mask picks, packed in their order, in at most as many rounds as the mask has ones.
+// The bits of x that the mask picks, packed in their order, in at most as many rounds as the mask has ones. The loop ends where no one of the mask is left: there is no range to go over.
 fn pack(x: u64, mask: u64) -> Counted
     ensures { Packs x mask result }
 {

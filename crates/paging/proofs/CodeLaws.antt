@@ -1,7 +1,8 @@
 -- The walks by the ways through a level and a turn, as the code makes them: once for any scheme and any way to an entry. Assumes nothing.
+use Rattle.std.specs.Prelude.{Err, Ok, None, Some}
 use Rattle.std.proofs.Common.{◌≡◌, ℕ, suc, ◌+◌, ◌-◌, ◌*◌, ◌/◌, ◌^◌, ◌<◌, ◌≤◌, Bool, true, false, not, eqb, sym, refl, ap, ◌∙◌, subst, arith, le-ltb, lt-ltb}
 use borrow.Author.Tests.{not-true, not-false}
-use Rattle.memory.specs.declared.Load.{Load}
+use Rattle.memory.specs.Load.{Load}
 use Rattle.memory.specs.Choice.{pick}
 use Rattle.memory.specs.Walk.{Walk, done, run}
 use Rattle.memory.proofs.Walks.{then, loads, at}
@@ -19,17 +20,17 @@ use Rattle.paging_entry.specs.declared.Lookup.{Lookup}
 use Rattle.paging_entry.specs.declared.LeafTest.{LeafTest}
 use Rattle.paging_entry.specs.declared.Raw.{Raw}
 use Rattle.paging_entry.specs.declared.Raw.TheVariants.{Arrive, Unread}
-use Rattle.paging_entry.specs.declared.Translation.{Translation}
-use Rattle.paging_entry.specs.declared.Translation.TheVariants.{To, Fault}
-use Rattle.paging_entry.specs.declared.Step.{Step}
-use Rattle.paging_entry.specs.declared.Step.TheVariants.{Stop, Next}
+use Rattle.paging_entry.specs.Purpose.{Translation}
+use Rattle.paging_entry.specs.Purpose.{Step}
+use Rattle.std.specs.declared.ops.ControlFlow.TheVariants.{Break, Continue}
 use Rattle.paging_entry.specs.Purpose.{asked_of, page_fault_of, access_fault_of}
 use Rattle.paging_entry.specs.Entry.{faulted, on_load}
 use Rattle.paging_entry.specs.Code.{test_of, raw_load, to_step, told_of, faulty_end, unread_end, code_of, told_by, Tight}
 use Rattle.paging_entry.proofs.EntryLaws.{tested, coded}
-use Rattle.paging.specs.declared.PageTable.{PageTable}
+use Rattle.paging.specs.Table.{StageTable}
+use Rattle.std.specs.declared.option.Option.{Option}
 use Rattle.paging.specs.Levels.{on_place, on_step, level_step, levels, walk_of}
-use Rattle.paging.specs.Stages.{direct, guest_lookup, second_stage_of, entry_place, device_lookup, first_stage_of}
+use Rattle.paging.specs.Stages.{guest_lookup, second_stage_of, entry_place, device_lookup, first_stage_of}
 use Rattle.paging.specs.Code.{on_raw, raw_levels, raw_walk, Near, Within, Small, step_at, levels_at}
 use Rattle.paging.proofs.LevelsLaws.{raw-whole}
 
@@ -152,19 +153,18 @@ index-there s a i l h e = h ∙ ap (λ (k : ℕ). index_of s a (k - 1)) e
 pub ruleset device_ways = (code_barred, end-barred, root-top, legal_so, index-there)
 
 -- the second stage's walk, by the number of its end
-module _ (m : ℕ → Load) (g : PageTable) (p : Purpose) (x : Access) (a : ℕ) where
-  pub second_walks : (t : Translation) (k : Access) (l : LeafTest) (n : ℕ) (r : Raw) → g.on ≡ true → k ≡ asked_of p x → l ≡ test_of k User
-      → r ≡ run m (raw_walk g.scheme l a g.root) → Tight r → n ≡ code_of r → t ≡ told_by p x n → t ≡ run m (second_stage_of g p x a)
+module _ (m : ℕ → Load) (g : StageTable) (p : Purpose) (x : Access) (a : ℕ) where
+  pub second_walks : (t : Translation) (k : Access) (l : LeafTest) (n : ℕ) (r : Raw) → k ≡ asked_of p x → l ≡ test_of k User
+      → r ≡ run m (raw_walk g.scheme l a g.root) → Tight r → n ≡ code_of r → t ≡ told_by p x n → t ≡ run m (second_stage_of (Some g) p x a)
   unfolding second_stage_of
-  second_walks t k l n r h hk hl hr ht hn e =
+  second_walks t k l n r hk hl hr ht hn e =
       e ∙ ap (told_by p x) hn ∙ coded p x r ht
       ∙ ap (told_of p x) (hr ∙ ap (λ (y : LeafTest). run m (raw_walk g.scheme y a g.root)) (hl ∙ ap (λ (y : Access). test_of y User) hk))
       ∙ raw-whole m g.scheme (guest_lookup p x a) g.root
-      ∙ simp h
 
-  pub second-bare : g.on ≡ false → To a ≡ run m (second_stage_of g p x a)
-  unfolding second_stage_of
-  second-bare h = simp h
+pub second-bare : (m : ℕ → Load) (g : Option StageTable) (p : Purpose) (x : Access) (a : ℕ) → g ≡ None → Ok a ≡ run m (second_stage_of g p x a)
+unfolding second_stage_of
+second-bare m g p x a h = simp h
 
 within_of : (a : ℕ) (p : Purpose) (x : Access) (r : Raw) → Tight r → Within a (told_of p x r)
 within_of a p x (Arrive b) h = omega arith
@@ -180,30 +180,30 @@ bare-within a = omega arith
 
 pub ruleset second_ways = (second-bare, second_walks, told-within, bare-within)
 
-told-stop : (p : Purpose) (x : Access) (r : ℕ) → faulty_end ≤ r → (f : FaultInfo) × (told_by p x r ≡ Fault f)
+told-stop : (p : Purpose) (x : Access) (r : ℕ) → faulty_end ≤ r → (f : FaultInfo) × (told_by p x r ≡ Err f)
 told-stop p x r l = go (eqb r faulty_end) refl
   where
-    go : (b : Bool) → eqb r faulty_end ≡ b → (f : FaultInfo) × (told_by p x r ≡ Fault f)
+    go : (b : Bool) → eqb r faulty_end ≡ b → (f : FaultInfo) × (told_by p x r ≡ Err f)
     go true z = (page_fault_of p x, simp (le-ltb r faulty_end l, z))
     go false z = (access_fault_of p x, simp (le-ltb r faulty_end l, z))
 
 -- a level whose entry lies at a guest address, `there`: `place` is the end of the second stage's walk to it
-module _ (m : ℕ → Load) (q : Lookup) (g : PageTable) (n there place : ℕ) (w : Raw) (l : LeafTest) (h : g.on ≡ true) (hl : l ≡ test_of Read User)
+module _ (m : ℕ → Load) (q : Lookup) (g : StageTable) (n there place : ℕ) (w : Raw) (l : LeafTest) (hl : l ≡ test_of Read User)
     (hw : w ≡ run m (raw_walk g.scheme l there g.root)) (hT : Tight w) (hp : place ≡ code_of w) where
-  found : (t : Translation) → t ≡ told_by FirstStageEntry q.access place → t ≡ run m (entry_place g q there)
-  found t e = second_walks m g FirstStageEntry q.access there t Read l place w h refl hl hw hT hp e
+  found : (t : Translation) → t ≡ told_by FirstStageEntry q.access place → t ≡ run m (entry_place (Some g) q there)
+  found t e = second_walks m g FirstStageEntry q.access there t Read l place w refl hl hw hT hp e
 
-  pub level-stops : (t : Translation) → faulty_end ≤ place → t ≡ told_by FirstStageEntry q.access place → Stop t ≡ run m (step_at q (entry_place g q) n there)
+  pub level-stops : (t : Translation) → faulty_end ≤ place → t ≡ told_by FirstStageEntry q.access place → Break t ≡ run m (step_at q (entry_place (Some g) q) n there)
   unfolding step_at
   level-stops t far e =
       let f = told-stop FirstStageEntry q.access place far in
-      then m (entry_place g q there) (on_place q n) (found t e) (at m (on_place q n) (e ∙ f.1) (ap Stop (e ∙ f.1)))
+      then m (entry_place (Some g) q there) (on_place q n) (found t e) (at m (on_place q n) (e ∙ f.1) (ap Break (e ∙ f.1)))
 
   pub level-steps : (v : Load) (t : LeafTest) (r : Raw) (x : Step) → place < faulty_end → v ≡ m place
-      → t ≡ test_of (asked_of q.purpose q.access) q.pages → r ≡ raw_load t q.address n v → x ≡ to_step q.purpose q.access r → x ≡ run m (step_at q (entry_place g q) n there)
+      → t ≡ test_of (asked_of q.purpose q.access) q.pages → r ≡ raw_load t q.address n v → x ≡ to_step q.purpose q.access r → x ≡ run m (step_at q (entry_place (Some g) q) n there)
   unfolding step_at
   level-steps v t r x near hv ht hr hx =
-      then m (entry_place g q there) (on_place q n) (found (To place) (simp (lt-ltb place faulty_end near)))
+      then m (entry_place (Some g) q there) (on_place q n) (found (Ok place) (simp (lt-ltb place faulty_end near)))
       (loads m place (λ y. done (on_load q n y)) hv
       (hx ∙ ap (to_step q.purpose q.access) (hr ∙ ap (λ (y : LeafTest). raw_load y q.address n v) ht) ∙ tested q n v))
 
@@ -228,17 +228,17 @@ module _ (m : ℕ → Load) (s : Scheme) (q : Lookup) (locate : ℕ → Walk Tra
   unfolding levels_at
   stepped-on e = then m (step_at q locate n there) (on_step (levels s q locate n)) ht e ∙ hw
 
-  pub walk_stops : (a : Translation) → t ≡ Stop a → a ≡ run m (levels s q locate l root)
+  pub walk_stops : (a : Translation) → t ≡ Break a → a ≡ run m (levels s q locate l root)
   walk_stops a e = stepped-on (at m (on_step (levels s q locate n)) e refl)
 
   -- a non-leaf at the last level
-  pub walk_last : (x : Translation) (k shift : ℕ) → t ≡ Next k → shift ≡ 12 + 9 * n → shift < 21 → x ≡ faulted q → x ≡ run m (levels s q locate l root)
+  pub walk_last : (x : Translation) (k shift : ℕ) → t ≡ Continue k → shift ≡ 12 + 9 * n → shift < 21 → x ≡ faulted q → x ≡ run m (levels s q locate l root)
   unfolding levels
   walk_last x k shift e hs z y =
       let none : n ≡ 0 = omega (arith, hs) in
       stepped-on (at m (on_step (levels s q locate n)) e (y ∙ ap (λ (j : ℕ). run m (levels s q locate j k)) (sym none)))
 
-  pub walk_goes : (k shift i next : ℕ) → t ≡ Next k → shift ≡ 12 + 9 * n → 21 ≤ shift → i ≡ index_of s q.address (n - 1) → next ≡ k * 4096 + 8 * i
+  pub walk_goes : (k shift i next : ℕ) → t ≡ Continue k → shift ≡ 12 + 9 * n → 21 ≤ shift → i ≡ index_of s q.address (n - 1) → next ≡ k * 4096 + 8 * i
       → run m (levels_at q locate s (n - 1) next) ≡ run m (levels s q locate l root)
   unfolding levels level_step step_at levels_at
   walk_goes k shift i next e hs z hi ha =
@@ -254,7 +254,7 @@ walk_starts m s q locate l i root there hl p hi ha =
     ap (λ (j : ℕ). run m (levels_at q locate s (l - 1) j)) (ha ∙ ap (λ (j : ℕ). root * 4096 + 8 * j) (hi ∙ ap (λ (k : ℕ). index_of s q.address (k - 1)) (sym hl)))
     ∙ ap (λ (j : ℕ). run m (levels s q locate j root)) (one_less l p ∙ hl)
 
-pub small-next : (t : Step) (k : ℕ) → t ≡ Next k → Small t → k < 2 ^ 44
+pub small-next : (t : Step) (k : ℕ) → t ≡ Continue k → Small t → k < 2 ^ 44
 small-next t k e h = subst Small e h
 
 pub test_asked : (q : Lookup) (t : LeafTest) (k : Access) → t ≡ test_of k q.pages → k ≡ asked_of q.purpose q.access
@@ -275,31 +275,25 @@ module _ (m : ℕ → Load) (s : Scheme) (q : Lookup) (locate : ℕ → Walk Tra
 
 pub ruleset nested_ways = (nested_illegal, nested_walks, root-top, index-there, test_asked)
 
-bare-place : (g : PageTable) (q : Lookup) → g.on ≡ false → entry_place g q ≡ direct
-unfolding second_stage_of
-bare-place g q h =
-    let place : Bool → ℕ → Walk Translation = λ b a. pick b (walk_of g.scheme (guest_lookup FirstStageEntry q.access a) direct g.root) (done (To a)) in
-    ap place h
-
 -- the first stage
-module _ (m : ℕ → Load) (f g : PageTable) (x : Access) (pages : Pages) (a : ℕ) where
-  pub first-bare : f.on ≡ false → To a ≡ run m (first_stage_of f g x pages a)
+module _ (m : ℕ → Load) (first g : Option StageTable) (x : Access) (pages : Pages) (a : ℕ) where
+  pub first-bare : first ≡ None → Ok a ≡ run m (first_stage_of first g x pages a)
   unfolding first_stage_of
   first-bare h = simp h
 
-  pub first_nested : (t : Translation) → f.on ≡ true → t ≡ run m (walk_of f.scheme (device_lookup x pages a) (entry_place g (device_lookup x pages a)) f.root)
-      → t ≡ run m (first_stage_of f g x pages a)
-  unfolding first_stage_of
-  first_nested t h e = e ∙ simp h
+  module _ (f : StageTable) (h : first ≡ Some f) where
+    pub first_nested : (t : Translation) (k : StageTable) → g ≡ Some k → t ≡ run m (walk_of f.scheme (device_lookup x pages a) (entry_place (Some k) (device_lookup x pages a)) f.root)
+        → t ≡ run m (first_stage_of first g x pages a)
+    unfolding first_stage_of
+    first_nested t k e d = d ∙ simp (h, e)
 
-  -- "First-stage entries lie at guest addresses when the second stage is on", else where their addresses say
-  pub first-direct : (t : Translation) (l : LeafTest) (n : ℕ) (r : Raw) → f.on ≡ true → g.on ≡ false → l ≡ test_of x pages → r ≡ run m (raw_walk f.scheme l a f.root)
-      → Tight r → n ≡ code_of r → t ≡ told_by FirstStage x n → t ≡ run m (first_stage_of f g x pages a)
-  unfolding first_stage_of
-  first-direct t l n r h b hl e ht hn k =
-      k ∙ ap (told_by FirstStage x) hn ∙ coded FirstStage x r ht ∙ ap (told_of FirstStage x) (e ∙ ap (λ (y : LeafTest). run m (raw_walk f.scheme y a f.root)) hl)
-      ∙ raw-whole m f.scheme (device_lookup x pages a) f.root
-      ∙ ap (λ (locate : ℕ → Walk Translation). run m (walk_of f.scheme (device_lookup x pages a) locate f.root)) (sym (bare-place g (device_lookup x pages a) b))
-      ∙ simp h
+    -- "First-stage entries lie at guest addresses when the second stage is on", else where their addresses say
+    pub first-direct : (t : Translation) (l : LeafTest) (n : ℕ) (r : Raw) → g ≡ None → l ≡ test_of x pages → r ≡ run m (raw_walk f.scheme l a f.root)
+        → Tight r → n ≡ code_of r → t ≡ told_by FirstStage x n → t ≡ run m (first_stage_of first g x pages a)
+    unfolding first_stage_of second_stage_of
+    first-direct t l n r b hl e ht hn k =
+        k ∙ ap (told_by FirstStage x) hn ∙ coded FirstStage x r ht ∙ ap (told_of FirstStage x) (e ∙ ap (λ (y : LeafTest). run m (raw_walk f.scheme y a f.root)) hl)
+        ∙ raw-whole m f.scheme (device_lookup x pages a) f.root
+        ∙ simp (h, b)
 
 pub ruleset first_ways = (first-bare, first_nested, first-direct)

@@ -1,11 +1,11 @@
 -- The walk by steps without causes says what the walk of the definitions says. Assumes nothing.
 use Rattle.std.proofs.Common.{◌≡◌, ℕ, zero, suc, Bool, true, false, refl, ap, ◌∙◌}
 use Rattle.memory.specs.Choice.{pick}
-use Rattle.memory.specs.declared.Load.{Load}
+use Rattle.memory.specs.Load.{Load}
 use Rattle.memory.specs.Walk.{Walk, done, run}
 use Rattle.paging_scheme.specs.declared.Scheme.{Scheme}
 use Rattle.paging_entry.specs.declared.Lookup.{Lookup}
-use Rattle.paging_entry.specs.declared.Step.{Step}
+use Rattle.paging_entry.specs.Purpose.{Step}
 use Rattle.paging_entry.specs.declared.Raw.{Raw}
 use Rattle.paging_entry.specs.declared.Raw.TheVariants.{Arrive, Next, Faulty, Unread}
 use Rattle.paging_scheme.specs.Scheme.{levels_of, legal_of}

@@ -1,24 +1,24 @@
 -- The first stage keeps the offset in a 4 KiB page: the device's address, by which the store rule looks at the offset, has the guest address's. Assumes nothing.
+use Rattle.std.specs.Prelude.{Err, None, Ok, Some}
 use Rattle.std.proofs.Common.{◌≡◌, ℕ, zero, suc, ◌+◌, ◌*◌, ◌%◌, ◌^◌, Bool, true, false, ◌&&◌, eqb, sym, refl, ap, ◌∙◌, subst, add_comm}
 use native.Mathlib.Nat.{mul-add-mod_self_right}
 use lib.Pow.{mod-mod-pow}
 use Rattle.memory.specs.Choice.{pick}
-use Rattle.memory.specs.declared.Load.{Load}
-use Rattle.memory.specs.declared.Load.TheVariants.{Value, Violation}
+use Rattle.memory.specs.Load.{Load}
 use Rattle.memory.specs.Walk.{Walk, done, run}
 use Rattle.memory.proofs.Walks.{run_bind}
 use Rattle.causes.specs.declared.Access.{Access}
 use Rattle.paging_scheme.specs.declared.Scheme.{Scheme}
-use Rattle.paging.specs.declared.PageTable.{PageTable}
+use Rattle.paging.specs.Table.{StageTable}
+use Rattle.std.specs.declared.option.Option.{Option}
 use Rattle.paging_entry.specs.declared.Pages.{Pages}
 use Rattle.paging_entry.specs.declared.Leaf.{Leaf}
 use Rattle.paging_entry.specs.declared.Entry.{Entry}
 use Rattle.paging_entry.specs.declared.Entry.TheVariants.{Faulty, Table, Maps}
 use Rattle.paging_entry.specs.declared.Lookup.{Lookup}
-use Rattle.paging_entry.specs.declared.Translation.{Translation}
-use Rattle.paging_entry.specs.declared.Translation.TheVariants.{To, Fault}
-use Rattle.paging_entry.specs.declared.Step.{Step}
-use Rattle.paging_entry.specs.declared.Step.TheVariants.{Stop, Next}
+use Rattle.paging_entry.specs.Purpose.{Translation}
+use Rattle.paging_entry.specs.Purpose.{Step}
+use Rattle.std.specs.declared.ops.ControlFlow.TheVariants.{Break, Continue}
 use Rattle.paging_scheme.specs.Scheme.{levels_of, legal_of}
 use Rattle.paging_entry.specs.Entry.{faulted, entry_of, allows, mapped_by, on_entry, on_load}
 use Rattle.paging.specs.Levels.{on_place, on_step, entry_at, level_step, levels, walk_of}
@@ -26,12 +26,12 @@ use Rattle.paging.specs.Stages.{entry_place, device_lookup, first_stage_of}
 
 -- an address that is reached has the offset of a
 abbrev pub SameOffset : ℕ → Translation → Type 0
-SameOffset a (To p) = p % 4096 ≡ a % 4096
-SameOffset a (Fault f) = Unit {0}
+SameOffset a (Ok p) = p % 4096 ≡ a % 4096
+SameOffset a (Err f) = Unit {0}
 
 abbrev SameStop : ℕ → Step → Type 0
-SameStop a (Stop t) = SameOffset a t
-SameStop a (Next table) = Unit {0}
+SameStop a (Break t) = SameOffset a t
+SameStop a (Continue table) = Unit {0}
 
 page-offset : (page a n : ℕ) → (page * 4096 + a % 2 ^ (12 + 9 * n)) % 4096 ≡ a % 4096
 page-offset page a n =
@@ -44,7 +44,7 @@ module _ (m : ℕ → Load) (q : Lookup) where
   unfolding mapped_by
   leaf-keeps n l = go (allows q l && eqb (l.page % 2 ^ (9 * n)) 0)
     where
-      go : (b : Bool) → SameOffset q.address (pick b (To (l.page * 4096 + q.address % 2 ^ (12 + 9 * n))) (faulted q))
+      go : (b : Bool) → SameOffset q.address (pick b (Ok (l.page * 4096 + q.address % 2 ^ (12 + 9 * n))) (faulted q))
       go true = page-offset l.page q.address n
       go false = tt
 
@@ -55,12 +55,12 @@ module _ (m : ℕ → Load) (q : Lookup) where
 
   load-keeps : (n : ℕ) (v : Load) → SameStop q.address (on_load q n v)
   unfolding on_load
-  load-keeps n Violation = tt
-  load-keeps n (Value e) = entry-keeps n (entry_of e)
+  load-keeps n None = tt
+  load-keeps n (Some e) = entry-keeps n (entry_of e)
 
   place-keeps : (n : ℕ) (t : Translation) → SameStop q.address (run m (on_place q n t))
-  place-keeps n (Fault f) = tt
-  place-keeps n (To p) = load-keeps n (m p)
+  place-keeps n (Err f) = tt
+  place-keeps n (Ok p) = load-keeps n (m p)
 
   module _ (s : Scheme) (locate : ℕ → Walk Translation) where
     level-keeps : (n table : ℕ) → SameStop q.address (run m (level_step s q locate n table))
@@ -71,8 +71,8 @@ module _ (m : ℕ → Load) (q : Lookup) where
 
     step_keeps : (n : ℕ) → ((page : ℕ) → SameOffset q.address (run m (levels s q locate n page))) → (t : Step) → SameStop q.address t
         → SameOffset q.address (run m (on_step (levels s q locate n) t))
-    step_keeps n below (Stop t) h = h
-    step_keeps n below (Next page) h = below page
+    step_keeps n below (Break t) h = h
+    step_keeps n below (Continue page) h = below page
 
     levels-keep : (n table : ℕ) → SameOffset q.address (run m (levels s q locate n table))
     unfolding levels
@@ -82,12 +82,12 @@ module _ (m : ℕ → Load) (q : Lookup) where
         (step_keeps n (levels-keep n) (run m (level_step s q locate n table)) (level-keeps n table))
 
 -- the guest address after the first stage has the device's offset
-pub first-keeps : (m : ℕ → Load) (f g : PageTable) (x : Access) (pages : Pages) (a : ℕ) → SameOffset a (run m (first_stage_of f g x pages a))
+pub first-keeps : (m : ℕ → Load) (f g : Option StageTable) (x : Access) (pages : Pages) (a : ℕ) → SameOffset a (run m (first_stage_of f g x pages a))
 unfolding first_stage_of walk_of
-first-keeps m f g x pages a = go f.on (legal_of f.scheme a)
+first-keeps m None g x pages a = refl
+first-keeps m (Some f) g x pages a = go (legal_of f.scheme a)
   where
-    go : (on legal : Bool) → SameOffset a
-        (run m (pick on (pick legal (levels f.scheme (device_lookup x pages a) (entry_place g (device_lookup x pages a)) (levels_of f.scheme) f.root) (done (faulted (device_lookup x pages a)))) (done (To a))))
-    go true true = levels-keep m (device_lookup x pages a) f.scheme (entry_place g (device_lookup x pages a)) (levels_of f.scheme) f.root
-    go true false = tt
-    go false legal = refl
+    go : (legal : Bool) → SameOffset a
+        (run m (pick legal (levels f.scheme (device_lookup x pages a) (entry_place g (device_lookup x pages a)) (levels_of f.scheme) f.root) (done (faulted (device_lookup x pages a)))))
+    go true = levels-keep m (device_lookup x pages a) f.scheme (entry_place g (device_lookup x pages a)) (levels_of f.scheme) f.root
+    go false = tt

@@ -1,22 +1,22 @@
 -- What SUM changes in a walk: the same answer, or one in place of a page fault. Assumes nothing.
+use Rattle.std.specs.Prelude.{Err, None, Ok, Some}
 use Rattle.std.proofs.Common.{◌≡◌, ℕ, zero, suc, ◌*◌, ◌%◌, ◌^◌, Bool, true, false, not, ◌&&◌, eqb, sym, refl, ap, ◌∙◌}
 use Rattle.memory.specs.Choice.{pick}
-use Rattle.memory.specs.declared.Load.{Load}
-use Rattle.memory.specs.declared.Load.TheVariants.{Value, Violation}
+use Rattle.memory.specs.Load.{Load}
 use Rattle.memory.specs.Walk.{Walk, done, run}
 use Rattle.memory.proofs.Walks.{run_bind}
 use Rattle.causes.specs.declared.Access.{Access}
 use Rattle.paging_scheme.specs.declared.Scheme.{Scheme}
-use Rattle.paging.specs.declared.PageTable.{PageTable}
+use Rattle.paging.specs.Table.{StageTable}
+use Rattle.std.specs.declared.option.Option.{Option}
 use Rattle.paging_entry.specs.declared.Pages.TheVariants.{Supervisor, Any}
 use Rattle.paging_entry.specs.declared.Leaf.{Leaf}
 use Rattle.paging_entry.specs.declared.Entry.{Entry}
 use Rattle.paging_entry.specs.declared.Entry.TheVariants.{Faulty, Table, Maps}
 use Rattle.paging_entry.specs.declared.Lookup.{Lookup}
-use Rattle.paging_entry.specs.declared.Translation.{Translation}
-use Rattle.paging_entry.specs.declared.Translation.TheVariants.{To, Fault}
-use Rattle.paging_entry.specs.declared.Step.{Step}
-use Rattle.paging_entry.specs.declared.Step.TheVariants.{Stop, Next}
+use Rattle.paging_entry.specs.Purpose.{Translation}
+use Rattle.paging_entry.specs.Purpose.{Step}
+use Rattle.std.specs.declared.ops.ControlFlow.TheVariants.{Break, Continue}
 use Rattle.paging_scheme.specs.Scheme.{levels_of, legal_of}
 use Rattle.paging_entry.specs.Entry.{entry_of, permits, allows, mapped_by}
 use Rattle.paging_entry.specs.Entry.{faulted, on_entry, on_load}
@@ -54,22 +54,22 @@ module _ (m : ℕ → Load) (x : Access) (a : ℕ) where
   unfolding mapped_by allows
   leaf-opens n l = by-u l.a l.u (permits x l) (eqb (l.page % 2 ^ (9 * n)) 0) _ _
 
-  entry-opens : (n : ℕ) (d : Entry) → Opens (Stop (faulted own)) (on_entry own n d) (on_entry all n d)
+  entry-opens : (n : ℕ) (d : Entry) → Opens (Break (faulted own)) (on_entry own n d) (on_entry all n d)
   entry-opens n Faulty = same refl
   entry-opens n (Table page) = same refl
-  entry-opens n (Maps l) = opens-on Stop (leaf-opens n l)
+  entry-opens n (Maps l) = opens-on Break (leaf-opens n l)
 
-  load-opens : (n : ℕ) (v : Load) → Opens (Stop (faulted own)) (on_load own n v) (on_load all n v)
+  load-opens : (n : ℕ) (v : Load) → Opens (Break (faulted own)) (on_load own n v) (on_load all n v)
   unfolding on_load
-  load-opens n Violation = same refl
-  load-opens n (Value e) = entry-opens n (entry_of e)
+  load-opens n None = same refl
+  load-opens n (Some e) = entry-opens n (entry_of e)
 
-  place-opens : (n : ℕ) (t : Translation) → Opens (Stop (faulted own)) (run m (on_place own n t)) (run m (on_place all n t))
-  place-opens n (Fault f) = same refl
-  place-opens n (To p) = load-opens n (m p)
+  place-opens : (n : ℕ) (t : Translation) → Opens (Break (faulted own)) (run m (on_place own n t)) (run m (on_place all n t))
+  place-opens n (Err f) = same refl
+  place-opens n (Ok p) = load-opens n (m p)
 
   module _ (s : Scheme) (locate : ℕ → Walk Translation) where
-    level-opens : (n table : ℕ) → Opens (Stop (faulted own)) (run m (level_step s own locate n table)) (run m (level_step s all locate n table))
+    level-opens : (n table : ℕ) → Opens (Break (faulted own)) (run m (level_step s own locate n table)) (run m (level_step s all locate n table))
     unfolding level_step
     level-opens n table =
         opens_by (run_bind m (locate (entry_at s own n table)) (on_place own n)) (run_bind m (locate (entry_at s all n table)) (on_place all n))
@@ -78,10 +78,10 @@ module _ (m : ℕ → Load) (x : Access) (a : ℕ) where
     -- a turn, where the levels below open
     module _ (n : ℕ) (below : (page : ℕ) → Opens (faulted own) (run m (levels s own locate n page)) (run m (levels s all locate n page))) where
       step-opens : (t : Step) → Opens (faulted own) (run m (on_step (levels s own locate n) t)) (run m (on_step (levels s all locate n) t))
-      step-opens (Stop k) = same refl
-      step-opens (Next page) = below page
+      step-opens (Break k) = same refl
+      step-opens (Continue page) = below page
 
-      turn_opens : (t u : Step) → Opens (Stop (faulted own)) t u → Opens (faulted own) (run m (on_step (levels s own locate n) t)) (run m (on_step (levels s all locate n) u))
+      turn_opens : (t u : Step) → Opens (Break (faulted own)) t u → Opens (faulted own) (run m (on_step (levels s own locate n) t)) (run m (on_step (levels s all locate n) u))
       turn_opens t u (same e) = opens_by refl (sym (ap (λ (k : Step). run m (on_step (levels s all locate n) k)) e)) (step-opens t)
       turn_opens t u (opened e) = opened (ap (λ (k : Step). run m (on_step (levels s own locate n) k)) e)
 
@@ -93,13 +93,13 @@ module _ (m : ℕ → Load) (x : Access) (a : ℕ) where
         (turn_opens n (levels-open n) (run m (level_step s own locate n table)) (run m (level_step s all locate n table)) (level-opens n table))
 
   -- the first stage under SUM, where it opens user pages, and without it
-  pub first-opens : (f g : PageTable) → Opens (faulted own) (run m (first_stage_of f g x Supervisor a)) (run m (first_stage_of f g x Any a))
+  pub first-opens : (f g : Option StageTable) → Opens (faulted own) (run m (first_stage_of f g x Supervisor a)) (run m (first_stage_of f g x Any a))
   unfolding first_stage_of walk_of
-  first-opens f g = go f.on (legal_of f.scheme a)
+  first-opens None g = same refl
+  first-opens (Some f) g = go (legal_of f.scheme a)
     where
-      go : (on legal : Bool) → Opens (faulted own)
-          (run m (pick on (pick legal (levels f.scheme own (entry_place g own) (levels_of f.scheme) f.root) (done (faulted own))) (done (To a))))
-          (run m (pick on (pick legal (levels f.scheme all (entry_place g all) (levels_of f.scheme) f.root) (done (faulted all))) (done (To a))))
-      go true true = levels-open f.scheme (entry_place g own) (levels_of f.scheme) f.root
-      go true false = same refl
-      go false legal = same refl
+      go : (legal : Bool) → Opens (faulted own)
+          (run m (pick legal (levels f.scheme own (entry_place g own) (levels_of f.scheme) f.root) (done (faulted own))))
+          (run m (pick legal (levels f.scheme all (entry_place g all) (levels_of f.scheme) f.root) (done (faulted all))))
+      go true = levels-open f.scheme (entry_place g own) (levels_of f.scheme) f.root
+      go false = same refl

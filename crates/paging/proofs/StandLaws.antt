@@ -1,12 +1,12 @@
 -- A walk that goes on in the other window where it leaves one says what the walk of both says. Assumes nothing.
+use Rattle.std.specs.Prelude.{None, Some}
 use Rattle.std.proofs.Common.{◌≡◌, ℕ, zero, suc, ◌+◌, ◌-◌, ◌*◌, ◌%◌, ◌^◌, ◌<◌, ◌≤◌, Bool, true, false, not, ◌&&◌, eqb, List, length, sym, refl, ap, ◌∙◌, subst, mod-lt, arith, pow_pos, pow_mono}
 use borrow.Author.Tests.{not-true, not-false}
-use Rattle.memory.specs.declared.Load.{Load}
-use Rattle.memory.specs.declared.Load.TheVariants.{Value, Violation}
+use Rattle.memory.specs.Load.{Load}
 use Rattle.memory.specs.declared.Starts.{Starts}
 use Rattle.memory.specs.Choice.{pick}
 use Rattle.memory.specs.Walk.{done, run}
-use Rattle.memory.specs.Window.{Window, inside, holds, doubleword, window_at, lent, load_in, memory}
+use Rattle.memory.specs.Window.{Window, Lent, inside, holds, doubleword, window_at, lent, load_in, memory}
 use Rattle.memory.specs.Code.{Walkable, load_at, turned_starts}
 use Rattle.memory.proofs.Offsets.{offset-load}
 use Rattle.memory.proofs.Order.{turned-memory, turned_walkable, first_load, no-load}
@@ -30,7 +30,7 @@ module _ (s : Scheme) (t : LeafTest) (a start n shift d : ℕ) (xs : List ℕ) (
   abbrev at : ℕ
   at = (d + start) % 2 ^ 64
 
-  read : r ≡ raw_load t a n (load_in (window_at start xs) at Violation)
+  read : r ≡ raw_load t a n (load_in (window_at start xs) at None)
   read = hr ∙ ap (raw_load t a n) (hv ∙ offset-load start d xs end hd)
 
   pub stand_goes : (k e i : ℕ) → r ≡ Next k → 21 ≤ shift → i ≡ index_of s a (n - 1) → (e + start) % 2 ^ 64 ≡ k * 4096 + 8 * i
@@ -39,10 +39,10 @@ module _ (s : Scheme) (t : LeafTest) (a start n shift d : ℕ) (xs : List ℕ) (
   stand_goes k e i h z hi he =
       let more : suc (n - 1) ≡ n = omega (arith, hs) in
       ap (near_walk s t a (window_at start xs) (n - 1)) (he ∙ ap (λ (j : ℕ). k * 4096 + 8 * j) hi)
-      ∙ go (n - 1) (sym h ∙ read ∙ ap (λ (j : ℕ). raw_load t a j (load_in (window_at start xs) at Violation)) (sym more))
+      ∙ go (n - 1) (sym h ∙ read ∙ ap (λ (j : ℕ). raw_load t a j (load_in (window_at start xs) at None)) (sym more))
       (ap (λ (j : ℕ). near_walk s t a (window_at start xs) j at) more ∙ hw)
     where
-      go : (j : ℕ) → Next k ≡ raw_load t a (suc j) (load_in (window_at start xs) at Violation) → near_walk s t a (window_at start xs) (suc j) at ≡ w
+      go : (j : ℕ) → Next k ≡ raw_load t a (suc j) (load_in (window_at start xs) at None) → near_walk s t a (window_at start xs) (suc j) at ≡ w
           → near_walk s t a (window_at start xs) j (k * 4096 + 8 * index_of s a j) ≡ w
       go j f g = ap (on_near s t a (window_at start xs) (λ table. near_walk s t a (window_at start xs) j (table * 4096 + 8 * index_of s a j)) (suc j) at) f ∙ g
 
@@ -51,7 +51,7 @@ module _ (s : Scheme) (t : LeafTest) (a start n shift d : ℕ) (xs : List ℕ) (
   unfolding near_walk
   turned k x e f = go n (sym e ∙ read) hw f
     where
-      go : (j : ℕ) → k ≡ raw_load t a j (load_in (window_at start xs) at Violation) → near_walk s t a (window_at start xs) j at ≡ w
+      go : (j : ℕ) → k ≡ raw_load t a j (load_in (window_at start xs) at None) → near_walk s t a (window_at start xs) j at ≡ w
           → ((next : ℕ → Stand) → on_near s t a (window_at start xs) next j at k ≡ x) → x ≡ w
       go zero h g f = sym (f (λ table. End faulty_end)) ∙ ap (on_near s t a (window_at start xs) (λ table. End faulty_end) zero at) h ∙ g
       go (suc j) h g f =
@@ -62,7 +62,7 @@ module _ (s : Scheme) (t : LeafTest) (a start n shift d : ℕ) (xs : List ℕ) (
   unfolding near_walk
   stand_last k h z = go n (omega (arith, hs)) (sym h ∙ read) hw
     where
-      go : (j : ℕ) → j ≡ 0 → Next k ≡ raw_load t a j (load_in (window_at start xs) at Violation) → near_walk s t a (window_at start xs) j at ≡ w → End faulty_end ≡ w
+      go : (j : ℕ) → j ≡ 0 → Next k ≡ raw_load t a j (load_in (window_at start xs) at None) → near_walk s t a (window_at start xs) j at ≡ w → End faulty_end ≡ w
       go zero p f g = ap (on_near s t a (window_at start xs) (λ table. End faulty_end) zero at) f ∙ g
       go (suc j) p f g = absurd (omega arith)
 
@@ -89,8 +89,8 @@ pub ruleset stand_ways = (stand_goes, stand_last, stand_arrived, stand_faulted, 
 -- a loaded entry: what it leads to is in bounds, and known where the load is no violation
 tight_load : (t : LeafTest) (a n : ℕ) (v : Load) → n < 5 → Tight (raw_load t a n v)
 unfolding raw_load
-tight_load t a n Violation h = tt
-tight_load t a n (Value e) h = go (table_bits e) (leaf_bits e t && eqb (entry_page e % 2 ^ (9 * n)) 0)
+tight_load t a n None h = tt
+tight_load t a n (Some e) h = go (table_bits e) (leaf_bits e t && eqb (entry_page e % 2 ^ (9 * n)) 0)
   where
     page : entry_page e < 2 ^ 44
     page = omega arith
@@ -113,7 +113,7 @@ Known (Next table) = Unit {0}
 Known Faulty = Unit {0}
 Known Unread = ⊥
 
-known-load : (t : LeafTest) (a n e : ℕ) → Known (raw_load t a n (Value e))
+known-load : (t : LeafTest) (a n e : ℕ) → Known (raw_load t a n (Some e))
 unfolding raw_load
 known-load t a n e = go (table_bits e) (leaf_bits e t && eqb (entry_page e % 2 ^ (9 * n)) 0)
   where
@@ -169,7 +169,7 @@ module _ (s : Scheme) (t : LeafTest) (a : ℕ) (w : Window) where
 
   module _ (n at : ℕ) (next : ℕ → Stand) where
     by_read : (P : Stand → Type 0) → (holds w at 8 ≡ false → P (Left n (page_bits_of n) at)) → (holds w at 8 ≡ true → (k : ℕ) → P (next k)) → ((end : ℕ) → P (End end))
-        → P (on_near s t a w next n at (raw_load t a n (load_in w at Violation)))
+        → P (on_near s t a w next n at (raw_load t a n (load_in w at None)))
     unfolding raw_load
     by_read P left goes ends = go (holds w at 8) refl
       where
@@ -179,8 +179,8 @@ module _ (s : Scheme) (t : LeafTest) (a : ℕ) (w : Window) where
         known e h Faulty k = ends faulty_end
         known e h Unread k = absurd k
 
-        go : (b : Bool) → holds w at 8 ≡ b → P (on_near s t a w next n at (raw_load t a n (pick b (Value (doubleword w.bytes (at - w.start))) Violation)))
-        go true h = known 0 h (raw_load t a n (Value (doubleword w.bytes (at - w.start)))) (known-load t a n (doubleword w.bytes (at - w.start)))
+        go : (b : Bool) → holds w at 8 ≡ b → P (on_near s t a w next n at (raw_load t a n (pick b (Some (doubleword w.bytes (at - w.start))) None)))
+        go true h = known 0 h (raw_load t a n (Some (doubleword w.bytes (at - w.start)))) (known-load t a n (doubleword w.bytes (at - w.start)))
         go false h = left h
 
   near_misses : (n at : ℕ) → Misses (near_walk s t a w n at)
@@ -214,7 +214,7 @@ module _ (s : Scheme) (t : LeafTest) (a : ℕ) (w : Window) where
       below place (Left level shift p) h = let e = few-missed place in omega arith
 
   -- from there on it is the walk of any memory that has all of the window
-  module _ (m : ℕ → Load) (has : (b : ℕ) → holds w b 8 ≡ true → m b ≡ load_in w b Violation) where
+  module _ (m : ℕ → Load) (has : (b : ℕ) → holds w b 8 ≡ true → m b ≡ load_in w b None) where
     on_read : (n at : ℕ) (next : ℕ → Stand) → ((k : ℕ) → code_of (run m (raw_levels s t a n k)) ≡ resumed s t a m (next k)) → (r : Raw) → r ≡ raw_load t a n (m at)
         → code_of (run m (on_raw (raw_levels s t a n) r)) ≡ resumed s t a m (on_near s t a w next n at r)
     on_read n at next h (Arrive p) e = refl
@@ -223,15 +223,15 @@ module _ (s : Scheme) (t : LeafTest) (a : ℕ) (w : Window) where
     on_read n at next h Unread e = ap (λ (y : Raw). code_of (run m (on_raw (raw_levels s t a n) y))) e
 
     near_step : (n at : ℕ) (next : ℕ → Stand) → ((k : ℕ) → code_of (run m (raw_levels s t a n k)) ≡ resumed s t a m (next k))
-        → code_of (run m (raw_from s t a n at)) ≡ resumed s t a m (on_near s t a w next n at (raw_load t a n (load_in w at Violation)))
+        → code_of (run m (raw_from s t a n at)) ≡ resumed s t a m (on_near s t a w next n at (raw_load t a n (load_in w at None)))
     unfolding raw_load
     near_step n at next h = go (holds w at 8) refl
       where
-        go : (b : Bool) → holds w at 8 ≡ b → code_of (run m (raw_from s t a n at)) ≡ resumed s t a m (on_near s t a w next n at (raw_load t a n (pick b (Value (doubleword w.bytes (at - w.start))) Violation)))
+        go : (b : Bool) → holds w at 8 ≡ b → code_of (run m (raw_from s t a n at)) ≡ resumed s t a m (on_near s t a w next n at (raw_load t a n (pick b (Some (doubleword w.bytes (at - w.start))) None)))
         go true e =
-            let v : m at ≡ Value (doubleword w.bytes (at - w.start)) = has at e ∙ ap (λ (b : Bool). pick b (Value (doubleword w.bytes (at - w.start))) Violation) e in
+            let v : m at ≡ Some (doubleword w.bytes (at - w.start)) = has at e ∙ ap (λ (b : Bool). pick b (Some (doubleword w.bytes (at - w.start))) None) e in
             ap (λ (x : Load). code_of (run m (on_raw (raw_levels s t a n) (raw_load t a n x)))) v
-            ∙ on_read n at next h (raw_load t a n (Value (doubleword w.bytes (at - w.start)))) (ap (raw_load t a n) (sym v))
+            ∙ on_read n at next h (raw_load t a n (Some (doubleword w.bytes (at - w.start)))) (ap (raw_load t a n) (sym v))
         go false e = refl
 
     pub near-run : (n at : ℕ) → code_of (run m (raw_from s t a n at)) ≡ resumed s t a m (near_walk s t a w n at)
@@ -240,32 +240,32 @@ module _ (s : Scheme) (t : LeafTest) (a : ℕ) (w : Window) where
     near-run (suc n) at = near_step (suc n) at (λ table. near_walk s t a w n (table * 4096 + 8 * index_of s a n)) (λ k. near-run n (k * 4096 + 8 * index_of s a n))
 
 -- a turn over both windows, the near one first: e is the end of the whole walk
-module _ (s : Scheme) (t : LeafTest) (a n at e : ℕ) (order starts : Starts) (near far xs ys : List ℕ) (stand : Stand)
-    (same : memory (lent order near far) ≡ memory (lent starts xs ys)) (hs : stand ≡ near_walk s t a (window_at order.first near) n at)
-    (he : code_of (run (memory (lent starts xs ys)) (raw_from s t a n at)) ≡ e) where
+module _ (s : Scheme) (t : LeafTest) (a n at e : ℕ) (order : Starts) (near far : List ℕ) (l : Lent) (stand : Stand)
+    (same : memory (lent order near far) ≡ memory l) (hs : stand ≡ near_walk s t a (window_at order.first near) n at)
+    (he : code_of (run (memory l) (raw_from s t a n at)) ≡ e) where
   abbrev here : Window
   here = window_at order.first near
 
-  stands : resumed s t a (memory (lent starts xs ys)) stand ≡ e
+  stands : resumed s t a (memory l) stand ≡ e
   stands =
-      ap (resumed s t a (memory (lent starts xs ys))) hs
-      ∙ sym (near-run s t a here (memory (lent starts xs ys)) (λ b h. sym (ap (λ (m : ℕ → Load). m b) same) ∙ first_load order near far b h) n at)
+      ap (resumed s t a (memory l)) hs
+      ∙ sym (near-run s t a here (memory l) (λ b h. sym (ap (λ (m : ℕ → Load). m b) same) ∙ first_load order near far b h) n at)
       ∙ he
 
   pub turn_ends : (end : ℕ) → stand ≡ End end → end ≡ e
-  turn_ends end h = ap (resumed s t a (memory (lent starts xs ys))) (sym h) ∙ stands
+  turn_ends end h = ap (resumed s t a (memory l)) (sym h) ∙ stands
 
   module _ (level low place : ℕ) (h : stand ≡ Left level low place) where
-    pub turn_left : code_of (run (memory (lent starts xs ys)) (raw_from s t a level place)) ≡ e
-    turn_left = ap (resumed s t a (memory (lent starts xs ys))) (sym h) ∙ stands
+    pub turn_left : code_of (run (memory l) (raw_from s t a level place)) ≡ e
+    turn_left = ap (resumed s t a (memory l)) (sym h) ∙ stands
 
     -- neither holds the entry
     pub turn_unread : (b : Bool) → b ≡ inside order.second (length far) place 8 → not b ≡ true → unread_end ≡ e
     unfolding raw_load
     turn_unread b hb y =
         let miss = subst (Misses s t a here) (sym hs ∙ h) (near_misses s t a here n at) in
-        let gone : memory (lent starts xs ys) place ≡ Violation = sym (ap (λ (m : ℕ → Load). m place) same) ∙ no-load order near far place miss (sym hb ∙ not-true b y) in
-        sym (ap (λ (v : Load). code_of (run (memory (lent starts xs ys)) (on_raw (raw_levels s t a level) (raw_load t a level v)))) gone) ∙ turn_left
+        let gone : memory l place ≡ None = sym (ap (λ (m : ℕ → Load). m place) same) ∙ no-load order near far place miss (sym hb ∙ not-true b y) in
+        sym (ap (λ (v : Load). code_of (run (memory l) (on_raw (raw_levels s t a level) (raw_load t a level v)))) gone) ∙ turn_left
 
     -- the other does: a level less, or the same in a window that holds it
     pub turn_less : (turned : Starts) (b : Bool) → turned ≡ turned_starts order → b ≡ inside order.second (length far) place 8 → not b ≡ false
@@ -286,11 +286,11 @@ module _ (s : Scheme) (t : LeafTest) (a n at e : ℕ) (order starts : Starts) (n
     left-shift k = (subst (Standing s) h k).2
 
 -- the windows in the other order
-module _ (order starts other : Starts) (near far xs ys : List ℕ) (ht : other ≡ turned_starts order) where
+module _ (order other : Starts) (near far : List ℕ) (l : Lent) (ht : other ≡ turned_starts order) where
   pub other_walkable : Walkable order (length near) (length far) → Walkable other (length far) (length near)
   other_walkable w = subst (λ (k : Starts). Walkable k (length far) (length near)) (sym ht) (turned_walkable order (length near) (length far) w)
 
-  pub other-memory : Walkable order (length near) (length far) → memory (lent order near far) ≡ memory (lent starts xs ys) → memory (lent other far near) ≡ memory (lent starts xs ys)
+  pub other-memory : Walkable order (length near) (length far) → memory (lent order near far) ≡ memory l → memory (lent other far near) ≡ memory l
   other-memory w e = ap (λ (k : Starts). memory (lent k far near)) ht ∙ turned-memory order near far w.apart ∙ e
 
 -- before the first

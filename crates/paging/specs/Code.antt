@@ -1,8 +1,7 @@
 -- The walk as the code makes it, by steps that carry no cause, and bounds that sums need. Nothing that a reader has to believe: `paging.LevelsLaws.raw_walk_lem` shows that it says what `Levels` says.
-use Rattle.std.specs.Prelude.{◌≡◌, ℕ, zero, suc, ◌+◌, ◌*◌, ◌^◌, ◌<◌, ◌≤◌}
+use Rattle.std.specs.Prelude.{◌≡◌, ℕ, zero, suc, ◌+◌, ◌*◌, ◌^◌, ◌<◌, ◌≤◌, Err, None, Ok}
 use Rattle.memory.specs.Choice.{pick}
-use Rattle.memory.specs.declared.Load.{Load}
-use Rattle.memory.specs.declared.Load.TheVariants.{Violation}
+use Rattle.memory.specs.Load.{Load}
 use Rattle.memory.specs.Walk.{Walk, done, load, bind, run}
 use Rattle.memory.specs.Window.{Window, load_in}
 use Rattle.paging_scheme.specs.declared.Scheme.{Scheme}
@@ -10,11 +9,10 @@ use Rattle.paging_scheme.specs.Scheme.{levels_of, legal_of, page_bits_of, index_
 use Rattle.paging_entry.specs.declared.LeafTest.{LeafTest}
 use Rattle.paging_entry.specs.declared.Raw.{Raw}
 use Rattle.paging_entry.specs.declared.Raw.TheVariants.{Arrive, Next, Faulty, Unread}
-use Rattle.paging_entry.specs.declared.Translation.{Translation}
-use Rattle.paging_entry.specs.declared.Translation.TheVariants.{To, Fault}
+use Rattle.paging_entry.specs.Purpose.{Translation}
 use Rattle.paging_entry.specs.declared.Lookup.{Lookup}
-use Rattle.paging_entry.specs.declared.Step.{Step}
-use Rattle.paging_entry.specs.declared.Step.TheVariants.{Stop}
+use Rattle.paging_entry.specs.Purpose.{Step}
+use Rattle.std.specs.declared.ops.ControlFlow.TheVariants.{Break, Continue}
 use Rattle.paging_entry.specs.Code.{raw_load, faulty_end, code_of}
 use Rattle.paging.specs.Levels.{on_place, on_step, levels}
 use Rattle.paging.specs.declared.Stand.{Stand}
@@ -52,8 +50,8 @@ module _ (s : Scheme) (t : LeafTest) (a : ℕ) where
 
     unfoldable pub near_walk : ℕ → ℕ → Stand
     unfolding raw_load
-    near_walk zero at = on_near (λ table. End faulty_end) zero at (raw_load t a zero (load_in w at Violation))
-    near_walk (suc n) at = on_near (λ table. near_walk n (table * 4096 + 8 * index_of s a n)) (suc n) at (raw_load t a (suc n) (load_in w at Violation))
+    near_walk zero at = on_near (λ table. End faulty_end) zero at (raw_load t a zero (load_in w at None))
+    near_walk (suc n) at = on_near (λ table. near_walk n (table * 4096 + 8 * index_of s a n)) (suc n) at (raw_load t a (suc n) (load_in w at None))
 
   -- the end of the whole walk, from there on
   abbrev pub resumed : (ℕ → Load) → Stand → ℕ
@@ -67,18 +65,18 @@ Standing s (Left n shift at) = (n < 5) × (n < levels_of s) × (shift ≡ page_b
 
 -- an address that an entry gives
 abbrev pub Near : Translation → Type 0
-Near (To p) = p < 2 ^ 57
-Near (Fault f) = Unit {0}
+Near (Ok p) = p < 2 ^ 57
+Near (Err f) = Unit {0}
 
 -- an address that an entry gives, or the address a itself
 abbrev pub Within : ℕ → Translation → Type 0
-Within a (To p) = p ≤ a + 2 ^ 57
-Within a (Fault f) = Unit {0}
+Within a (Ok p) = p ≤ a + 2 ^ 57
+Within a (Err f) = Unit {0}
 
 -- the page of a table is one that an entry can hold
 abbrev pub Small : Step → Type 0
-Small (Stop t) = Near t
-Small (Step.Next table) = table < 2 ^ 44
+Small (Break t) = Near t
+Small (Continue table) = table < 2 ^ 44
 
 -- the walk of any tables from an entry's address on: one level, and all from level n
 module _ (q : Lookup) (locate : ℕ → Walk Translation) where

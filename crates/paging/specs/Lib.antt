@@ -1,3 +1,4 @@
+pub mod Table
 pub mod Levels
 pub mod Stages
 pub mod Code

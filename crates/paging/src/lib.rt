@@ -1,44 +1,60 @@
 // Page-table walks of the first and the second stage.
 #![tactic(auto)]
 
-ghost use Rattle.std.specs.Prelude.{◌≡◌, ◌+◌, ◌-◌, ◌*◌, ◌%◌, ◌^◌, ◌<◌, ◌≤◌, true, false, length};
-ghost use Rattle.memory.specs.Window.{window_at, lent, memory};
+ghost use Rattle.std.specs.Prelude.{◌≡◌, ◌==◌, ◌&&◌, ◌+◌, ◌-◌, ◌*◌, ◌%◌, ◌^◌, ◌<◌, ◌≤◌, true, false, length};
+ghost use Rattle.memory.specs.Window.{window_at, memory};
 ghost use Rattle.memory.specs.Walk.{run};
-ghost use Rattle.memory.specs.Code.{Walkable};
 ghost use Rattle.paging_scheme.specs.Scheme.{levels_of, signed_of, legal_of, page_bits_of, index_of};
 ghost use Rattle.paging_entry.specs.Purpose.{asked_of};
 ghost use Rattle.paging_entry.specs.Entry.{faulted as faulted_of};
 ghost use Rattle.paging_entry.specs.Code.{test_of, code_of, Tight};
+ghost use Rattle.paging.specs.Table.{StageTable};
 ghost use Rattle.paging.specs.Levels.{levels as levels_from, walk_of};
 ghost use Rattle.paging.specs.Stages.{entry_place, first_stage_of};
 ghost use Rattle.paging.specs.Code.{raw_walk, near_walk, Standing, step_at, Small};
 
-use causes::Access;
-use memory::Starts;
-use paging_entry::{LeafTest, Lookup, Pages, Purpose, Raw, Step, Translation};
+use causes::{Access, FaultInfo};
+use memory::Windows;
+use paging_entry::{LeafTest, Lookup, Pages, Purpose, Raw};
 use paging_scheme::Scheme;
+use std::marker::Model;
+use std::ops::ControlFlow;
 
-// A stage of translation, as iosatp or iohgatp gives it: Bare where it isn't on.
+// The page table of stage 1 or 2, as iosatp or iohgatp gives it: its root is a page that an entry can name, and the second stage's addresses carry no sign.
 #[derive(Clone, Copy)]
-pub struct PageTable {
-    pub on: bool,
+pub struct PageTable<const STAGE: u64> {
     pub scheme: Scheme,
     pub root: u64,
 }
 
-// Where a walk in one window stands: at its end, as a number, or before an entry that the window doesn't hold: its level, shift and address.
-#[derive(Clone, Copy)]
+impl<const STAGE: u64> Model for PageTable<STAGE> {
+    ghost Value = { StageTable };
+
+    ghost view = { λ t. record { scheme = t.scheme; root = t.root } };
+
+    ghost inverse = { λ t. record { scheme = t.scheme; root = t.root } };
+
+    ghost invariant = { λ t. (t.root < 2 ^ 44) × (((STAGE == 2) && signed_of t.scheme) ≡ false) };
+}
+
+// The first stage's, and the second's.
+pub type FirstTable = PageTable<1>;
+
+pub type GuestTable = PageTable<2>;
+
+// Where a walk in one window stands: at its end, as a number, or before an entry that the window doesn't hold: its level, shift and address. An enum of its own: a place where the walk goes on is no error, and none of the two is absent.
+#[derive(Clone, Copy, Debug, PartialEq, Eq)]
 pub enum Stand {
     End(u64),
     Left(u64, u64, u64),
 }
 
-fn faulted(q: Lookup) -> Translation
+fn faulted(q: Lookup) -> Result<u64, FaultInfo>
     ensures { result ≡ faulted_of q }
 {
     let p = q.purpose;
     let x = q.access;
-    Translation::Fault(paging_entry::page_fault(p, x))
+    Err(paging_entry::page_fault(p, x))
 }
 
 // Where an entry of a table lies.
@@ -58,6 +74,7 @@ fn entry_offset(start: u64, table: u64, i: u64) -> u64
 }
 
 // The walk of a table whose entries lie where their addresses say, from an entry of a level on, as far as it stays in one window: one compare a load. The scheme and the level are for the promise alone, and the compiler drops them.
+#[tactic(auto, using(crate::proofs::CodeLaws::raw_ways, crate::proofs::StandLaws::stand_ways))]
 fn near_walk(
     s: Scheme,
     t: LeafTest,
@@ -74,6 +91,7 @@ fn near_walk(
     let mut n = level;
     let mut shift = top;
     let mut d = memory::offset(start, place);
+    // No `for` over the levels: the compiler drops the level, and the next place needs the level below, which the last one doesn't have.
     loop {
         match paging_entry::read_entry(t, a, n, shift, memory::load_at(window, d)) {
             Raw::Next(next) => {
@@ -98,26 +116,17 @@ fn near_walk(
 }
 
 // The whole of it, from the root's shift and index: where it leaves a window it goes on in the other. Its end is one number, so that it comes back in a register; causes come after it.
-fn descend<'a>(
-    s: Scheme,
-    t: LeafTest,
-    a: u64,
-    top: u64,
-    index: u64,
-    starts: Starts,
-    first: &'a [u8],
-    second: &'a [u8],
-    root: u64,
-) -> u64
-    requires { (root < 2 ^ 44) × (legal_of s a ≡ true) × (top ≡ page_bits_of (levels_of s - 1)) × (index ≡ index_of s a (levels_of s - 1)) × (index < 2048) × Walkable starts (length first.now) (length second.now) }
-    ensures { (result ≡ code_of (run (memory (lent starts first.now second.now)) (raw_walk s t a root))) × Tight (run (memory (lent starts first.now second.now)) (raw_walk s t a root)) }
+fn descend(s: Scheme, t: LeafTest, a: u64, top: u64, index: u64, w: &Windows, root: u64) -> u64
+    requires { (root < 2 ^ 44) × (legal_of s a ≡ true) × (top ≡ page_bits_of (levels_of s - 1)) × (index ≡ index_of s a (levels_of s - 1)) × (index < 2048) }
+    ensures { (result ≡ code_of (run (memory w.now) (raw_walk s t a root))) × Tight (run (memory w.now) (raw_walk s t a root)) }
 {
     let mut n = s.levels() - 1;
     let mut shift = top;
     let mut at = entry_at(root, index);
-    let mut order = starts;
-    let mut near = first;
-    let mut far = second;
+    let mut order = w.starts;
+    let mut near = w.first;
+    let mut far = w.second;
+    // Each turn is the walk in one window, so nothing is counted here.
     loop {
         match near_walk(s, t, a, n, shift, at, order.first, near) {
             Stand::End(end) => {
@@ -140,16 +149,9 @@ fn descend<'a>(
 }
 
 // The walk of a guest address. Above its root's shift a legal one has the root's index, of eleven bits, and nothing else. Its callers make the causes: around it and them the compiler would find too much to inline.
-pub fn guest_walk<'a>(
-    g: PageTable,
-    t: LeafTest,
-    starts: Starts,
-    first: &'a [u8],
-    second: &'a [u8],
-    a: u64,
-) -> u64
-    requires { (g.root < 2 ^ 44) × (signed_of g.scheme ≡ false) × Walkable starts (length first.now) (length second.now) }
-    ensures { (result ≡ code_of (run (memory (lent starts first.now second.now)) (raw_walk g.scheme t a g.root))) × Tight (run (memory (lent starts first.now second.now)) (raw_walk g.scheme t a g.root)) }
+#[tactic(auto, using(crate::proofs::CodeLaws::guest_ways))]
+pub fn guest_walk(g: GuestTable, t: LeafTest, w: &Windows, a: u64) -> u64
+    ensures { (result ≡ code_of (run (memory w.now) (raw_walk g.scheme t a g.root))) × Tight (run (memory w.now) (raw_walk g.scheme t a g.root)) }
 {
     let s = g.scheme;
     let top = paging_scheme::root_shift(s.levels());
@@ -157,60 +159,59 @@ pub fn guest_walk<'a>(
     if 2047 < index {
         return paging_entry::FAULTY;
     }
-    descend(s, t, a, top, index, starts, first, second, g.root)
+    descend(s, t, a, top, index, w, g.root)
 }
 
 // One level of a first-stage table: its entry lies at a guest address. A fault's cause is made where there is one.
-fn guest_level<'a>(
+#[tactic(auto, using(crate::proofs::CodeLaws::level_ways))]
+fn guest_level(
     q: Lookup,
     t: LeafTest,
-    g: PageTable,
-    starts: Starts,
-    first: &'a [u8],
-    second: &'a [u8],
+    g: GuestTable,
+    w: &Windows,
     n: u64,
     shift: u64,
     at: u64,
-) -> Step
-    requires { (n < 5) × (shift ≡ page_bits_of n) × (g.on ≡ true) × (g.root < 2 ^ 44) × (signed_of g.scheme ≡ false) × (t ≡ test_of (asked_of q.purpose q.access) q.pages) × Walkable starts (length first.now) (length second.now) }
-    ensures { (result ≡ run (memory (lent starts first.now second.now)) (step_at q (entry_place g q) n at)) × Small result }
+) -> ControlFlow<Result<u64, FaultInfo>, u64>
+    requires { (n < 5) × (shift ≡ page_bits_of n) × (t ≡ test_of (asked_of q.purpose q.access) q.pages) }
+    ensures { (result ≡ run (memory w.now) (step_at q (entry_place (Some g) q) n at)) × Small result }
 {
     let x = q.access;
     let read = paging_entry::leaf_test(Access::Read, Pages::User);
-    let place = guest_walk(g, read, starts, first, second, at);
+    let place = guest_walk(g, read, w, at);
     if paging_entry::FAULTY <= place {
-        return Step::Stop(paging_entry::told(Purpose::FirstStageEntry, x, place));
+        return ControlFlow::Break(paging_entry::told(Purpose::FirstStageEntry, x, place));
     }
     let o = q.purpose;
-    let v = memory::load64(starts, first, second, place);
+    let v = w.load64(place);
     paging_entry::stepped(o, x, paging_entry::read_entry(t, q.address, n, shift, v))
 }
 
 // The walk of first-stage tables under a second stage, from the root's shift and index.
-fn guest_descend<'a>(
+#[tactic(auto, using(crate::proofs::CodeLaws::raw_ways, crate::proofs::CodeLaws::walk_ways))]
+fn guest_descend(
     s: Scheme,
     q: Lookup,
     t: LeafTest,
-    g: PageTable,
+    g: GuestTable,
     top: u64,
     index: u64,
-    starts: Starts,
-    first: &'a [u8],
-    second: &'a [u8],
+    w: &Windows,
     root: u64,
-) -> Translation
-    requires { (root < 2 ^ 44) × (top ≡ page_bits_of (levels_of s - 1)) × (index ≡ index_of s q.address (levels_of s - 1)) × (index < 2048) × (t ≡ test_of (asked_of q.purpose q.access) q.pages) × (g.on ≡ true) × (g.root < 2 ^ 44) × (signed_of g.scheme ≡ false) × Walkable starts (length first.now) (length second.now) }
-    ensures { result ≡ run (memory (lent starts first.now second.now)) (levels_from s q (entry_place g q) (levels_of s) root) }
+) -> Result<u64, FaultInfo>
+    requires { (root < 2 ^ 44) × (top ≡ page_bits_of (levels_of s - 1)) × (index ≡ index_of s q.address (levels_of s - 1)) × (index < 2048) × (t ≡ test_of (asked_of q.purpose q.access) q.pages) }
+    ensures { result ≡ run (memory w.now) (levels_from s q (entry_place (Some g) q) (levels_of s) root) }
 {
     let mut n = s.levels() - 1;
     let mut low = top;
     let mut at = entry_at(root, index);
+    // No `for` over the levels: the next place needs the level below, which the last one doesn't have.
     loop {
-        match guest_level(q, t, g, starts, first, second, n, low, at) {
-            Step::Stop(end) => {
+        match guest_level(q, t, g, w, n, low, at) {
+            ControlFlow::Break(end) => {
                 return end;
             }
-            Step::Next(next) => {
+            ControlFlow::Continue(next) => {
                 if low < 21 {
                     return faulted(q);
                 }
@@ -223,16 +224,9 @@ fn guest_descend<'a>(
 }
 
 // The walk of the device's address by tables that lie at guest addresses.
-fn nested_walk<'a>(
-    f: PageTable,
-    q: Lookup,
-    g: PageTable,
-    starts: Starts,
-    first: &'a [u8],
-    second: &'a [u8],
-) -> Translation
-    requires { (f.root < 2 ^ 44) × (g.on ≡ true) × (g.root < 2 ^ 44) × (signed_of g.scheme ≡ false) × Walkable starts (length first.now) (length second.now) }
-    ensures { result ≡ run (memory (lent starts first.now second.now)) (walk_of f.scheme q (entry_place g q) f.root) }
+#[tactic(auto, using(crate::proofs::CodeLaws::nested_ways))]
+fn nested_walk(f: FirstTable, q: Lookup, g: GuestTable, w: &Windows) -> Result<u64, FaultInfo>
+    ensures { result ≡ run (memory w.now) (walk_of f.scheme q (entry_place (Some g) q) f.root) }
 {
     let s = f.scheme;
     if !s.legal(q.address) {
@@ -245,20 +239,13 @@ fn nested_walk<'a>(
     let levels = s.levels();
     let top = paging_scheme::root_shift(levels);
     let index = s.index(q.address, levels - 1);
-    guest_descend(s, q, t, g, top, index, starts, first, second, f.root)
+    guest_descend(s, q, t, g, top, index, w, f.root)
 }
 
 // The walk of the device's address by tables that lie where their addresses say.
-fn device_walk<'a>(
-    f: PageTable,
-    t: LeafTest,
-    starts: Starts,
-    first: &'a [u8],
-    second: &'a [u8],
-    a: u64,
-) -> u64
-    requires { (f.root < 2 ^ 44) × Walkable starts (length first.now) (length second.now) }
-    ensures { (result ≡ code_of (run (memory (lent starts first.now second.now)) (raw_walk f.scheme t a f.root))) × Tight (run (memory (lent starts first.now second.now)) (raw_walk f.scheme t a f.root)) }
+#[tactic(auto, using(crate::proofs::CodeLaws::device_ways))]
+fn device_walk(f: FirstTable, t: LeafTest, w: &Windows, a: u64) -> u64
+    ensures { (result ≡ code_of (run (memory w.now) (raw_walk f.scheme t a f.root))) × Tight (run (memory w.now) (raw_walk f.scheme t a f.root)) }
 {
     let s = f.scheme;
     if !s.legal(a) {
@@ -266,49 +253,37 @@ fn device_walk<'a>(
     }
     let levels = s.levels();
     let index = s.index(a, levels - 1);
-    descend(
-        s,
-        t,
-        a,
-        paging_scheme::root_shift(levels),
-        index,
-        starts,
-        first,
-        second,
-        f.root,
-    )
+    descend(s, t, a, paging_scheme::root_shift(levels), index, w, f.root)
 }
 
 // The device's address, by the first stage.
-pub fn first_stage<'a>(
-    f: PageTable,
-    g: PageTable,
+#[tactic(auto, using(crate::proofs::CodeLaws::first_ways))]
+pub fn first_stage(
+    first: Option<FirstTable>,
+    second: Option<GuestTable>,
     x: Access,
     pages: Pages,
-    starts: Starts,
-    first: &'a [u8],
-    second: &'a [u8],
+    w: &Windows,
     a: u64,
-) -> Translation
-    requires { (f.root < 2 ^ 44) × (g.root < 2 ^ 44) × (signed_of g.scheme ≡ false) × Walkable starts (length first.now) (length second.now) }
-    ensures { result ≡ run (memory (lent starts first.now second.now)) (first_stage_of f g x pages a) }
+) -> Result<u64, FaultInfo>
+    ensures { result ≡ run (memory w.now) (first_stage_of first second x pages a) }
 {
-    if f.on {
-        if g.on {
+    let Some(f) = first else {
+        return Ok(a);
+    };
+    match second {
+        Some(g) => {
             let q = Lookup {
                 address: a,
                 access: x,
                 purpose: Purpose::FirstStage,
                 pages,
             };
-            return nested_walk(f, q, g, starts, first, second);
+            nested_walk(f, q, g, w)
         }
-        let t = paging_entry::leaf_test(x, pages);
-        return paging_entry::told(
-            Purpose::FirstStage,
-            x,
-            device_walk(f, t, starts, first, second, a),
-        );
+        None => {
+            let end = device_walk(f, paging_entry::leaf_test(x, pages), w, a);
+            paging_entry::told(Purpose::FirstStage, x, end)
+        }
     }
-    Translation::To(a)
 }

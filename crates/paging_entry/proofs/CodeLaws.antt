@@ -1,4 +1,5 @@
 -- A page-table entry and its step, by the tests that the code makes. Assumes nothing.
+use Rattle.std.specs.Prelude.{Err, None, Ok, Some}
 use Prim.Native.Nat.{ℕ, ◌+◌, ◌*◌, ◌/◌, ◌%◌, ◌^◌, ◌<◌, ◌≤◌}
 use mathlib.Core.Bool.{Bool, true, false, not, ◌&&◌}
 use mathlib.Core.Path.{◌≡◌, refl, sym, ap, ◌∙◌}
@@ -10,8 +11,7 @@ use lib.Arith.{mod-mul}
 use borrow.Author.Tests.{lt-ltb, le-ltb, eq-eqb, ne_eqb}
 use Rattle.memory.specs.Choice.{pick}
 use Rattle.memory.specs.Bits.{bits, bit}
-use Rattle.memory.specs.declared.Load.{Load}
-use Rattle.memory.specs.declared.Load.TheVariants.{Value, Violation}
+use Rattle.memory.specs.Load.{Load}
 use Rattle.causes.specs.Causes.{fault_at}
 use Rattle.causes.specs.declared.Access.{Access}
 use Rattle.causes.specs.declared.Access.TheVariants.{Read, Write, Execute}
@@ -21,9 +21,8 @@ use Rattle.paging_entry.specs.declared.Purpose.{Purpose}
 use Rattle.paging_entry.specs.declared.Pages.{Pages}
 use Rattle.paging_entry.specs.declared.Pages.TheVariants.{User, Supervisor, Any}
 use Rattle.paging_entry.specs.declared.LeafTest.{LeafTest}
-use Rattle.paging_entry.specs.declared.Translation.TheVariants.{To, Fault}
-use Rattle.paging_entry.specs.declared.Step.{Step}
-use Rattle.paging_entry.specs.declared.Step.TheVariants.{Stop}
+use Rattle.paging_entry.specs.Purpose.{Step}
+use Rattle.std.specs.declared.ops.ControlFlow.TheVariants.{Break}
 use Rattle.paging_entry.specs.declared.Raw.{Raw}
 use Rattle.paging_entry.specs.declared.Raw.TheVariants.{Arrive, Unread}
 use Rattle.paging_entry.specs.Purpose.{page_fault_of, access_fault_of}
@@ -47,7 +46,7 @@ fault-by s c d f h e = h ∙ ap (fault_at s) e
 pub ruleset fault_ways = (page_fault-is, access_fault-is, fault_with, fault-by)
 
 -- a loaded entry, by the tests that the code makes
-pub raw_violates : (t : LeafTest) (a n : ℕ) (v : Load) → v ≡ Violation → Unread ≡ raw_load t a n v
+pub raw_violates : (t : LeafTest) (a n : ℕ) (v : Load) → v ≡ None → Unread ≡ raw_load t a n v
 unfolding raw_load
 raw_violates t a n v e = sym (ap (raw_load t a n) e)
 
@@ -61,7 +60,7 @@ page-aligned page n =
     ∙ ap (λ (k : ℕ). k % 2 ^ (9 * n) * 4096 + page * 4096 % 4096) d
     ∙ omega (arith, r)
 
-module _ (t : LeafTest) (a n e page : ℕ) (v : Load) (hv : v ≡ Value e) (hp : page ≡ entry_page e) (b : Bool) (hb : b ≡ table_bits e) where
+module _ (t : LeafTest) (a n e page : ℕ) (v : Load) (hv : v ≡ Some e) (hp : page ≡ entry_page e) (b : Bool) (hb : b ≡ table_bits e) where
   pub raw_points : b ≡ true → Raw.Next page ≡ raw_load t a n v
   unfolding raw_load
   raw_points y = ap Raw.Next hp ∙ simp (hv, ← hb, y)
@@ -116,23 +115,26 @@ pub ruleset entry_ways = (raw_violates, raw_points, raw_refuses, raw-misaligned,
 pub stepped-is : (p : Purpose) (x : Access) (r k : Raw) (t : Step) → r ≡ k → t ≡ to_step p x k → t ≡ to_step p x r
 stepped-is p x r k t e h = h ∙ sym (ap (to_step p x) e)
 
-pub page-stop : (p : Purpose) (x : Access) (f : FaultInfo) → f ≡ page_fault_of p x → Stop (Fault f) ≡ Stop (Fault (page_fault_of p x))
-page-stop p x f e = ap (λ (g : FaultInfo). Stop (Fault g)) e
+abbrev stop : FaultInfo → Step
+stop f = Break (Err f)
 
-pub access-stop : (p : Purpose) (x : Access) (f : FaultInfo) → f ≡ access_fault_of p x → Stop (Fault f) ≡ Stop (Fault (access_fault_of p x))
-access-stop p x f e = ap (λ (g : FaultInfo). Stop (Fault g)) e
+pub page-stop : (p : Purpose) (x : Access) (f : FaultInfo) → f ≡ page_fault_of p x → stop f ≡ stop (page_fault_of p x)
+page-stop p x f e = ap stop e
+
+pub access-stop : (p : Purpose) (x : Access) (f : FaultInfo) → f ≡ access_fault_of p x → stop f ≡ stop (access_fault_of p x)
+access-stop p x f e = ap stop e
 
 pub ruleset step_ways = (stepped-is, page-stop, access-stop)
 
 -- a walk's end, by its number
 module _ (p : Purpose) (x : Access) (r : ℕ) where
-  pub told-address : r < faulty_end → To r ≡ told_by p x r
+  pub told-address : r < faulty_end → Ok r ≡ told_by p x r
   told-address h = simp (lt-ltb r faulty_end h)
 
-  pub told_faulty : (f : FaultInfo) → faulty_end ≤ r → r ≡ faulty_end → f ≡ page_fault_of p x → Fault f ≡ told_by p x r
+  pub told_faulty : (f : FaultInfo) → faulty_end ≤ r → r ≡ faulty_end → f ≡ page_fault_of p x → Err f ≡ told_by p x r
   told_faulty f h z e = simp (e, le-ltb r faulty_end h, eq-eqb r faulty_end z)
 
-  pub told-unread : (f : FaultInfo) → faulty_end ≤ r → (r ≡ faulty_end → ⊥) → f ≡ access_fault_of p x → Fault f ≡ told_by p x r
+  pub told-unread : (f : FaultInfo) → faulty_end ≤ r → (r ≡ faulty_end → ⊥) → f ≡ access_fault_of p x → Err f ≡ told_by p x r
   told-unread f h z e = simp (e, le-ltb r faulty_end h, ne_eqb r faulty_end z)
 
 pub ruleset told_ways = (told-address, told_faulty, told-unread)

@@ -1,4 +1,5 @@
 -- The tests of an entry's bits, and the steps without causes, say what the definitions say. Assumes nothing.
+use Rattle.std.specs.Prelude.{None, Ok, Some}
 use Prim.Native.Nat.{ℕ, ◌+◌, ◌*◌, ◌%◌, ◌^◌}
 use mathlib.Core.Bool.{Bool, true, false, not, ◌&&◌}
 use mathlib.Core.Path.{◌≡◌, refl, ap, ◌∙◌}
@@ -7,8 +8,7 @@ use borrow.Author.Tests.{lt-ltb}
 use lib.Dec.{eqb}
 use Rattle.memory.specs.Choice.{pick}
 use Rattle.memory.specs.Bits.{bits, bit}
-use Rattle.memory.specs.declared.Load.{Load}
-use Rattle.memory.specs.declared.Load.TheVariants.{Value, Violation}
+use Rattle.memory.specs.Load.{Load}
 use Rattle.causes.specs.declared.Access.{Access}
 use Rattle.causes.specs.declared.Access.TheVariants.{Read, Write, Execute}
 use Rattle.paging_entry.specs.declared.Purpose.{Purpose}
@@ -16,9 +16,8 @@ use Rattle.paging_entry.specs.declared.Lookup.{Lookup}
 use Rattle.paging_entry.specs.declared.Leaf.{Leaf}
 use Rattle.paging_entry.specs.declared.Entry.{Entry}
 use Rattle.paging_entry.specs.declared.Entry.TheVariants.{Table, Maps}
-use Rattle.paging_entry.specs.declared.Translation.TheVariants.{To}
-use Rattle.paging_entry.specs.declared.Step.{Step}
-use Rattle.paging_entry.specs.declared.Step.TheVariants.{Stop}
+use Rattle.paging_entry.specs.Purpose.{Step}
+use Rattle.std.specs.declared.ops.ControlFlow.TheVariants.{Break, Continue}
 use Rattle.paging_entry.specs.declared.Raw.{Raw}
 use Rattle.paging_entry.specs.declared.Raw.TheVariants.{Arrive, Next, Faulty, Unread}
 use Rattle.paging_scheme.specs.Scheme.{page_bits_of}
@@ -30,12 +29,12 @@ use Rattle.paging_entry.specs.Code.{test_of, table_bits, raw_load, to_step, told
 
 -- an entry's step, for the access k that the page must permit
 abbrev on_kind : Lookup → ℕ → Access → Entry → Step
-on_kind q n k Entry.Faulty = Stop (faulted q)
-on_kind q n k (Table t) = Step.Next t
+on_kind q n k Entry.Faulty = Break (faulted q)
+on_kind q n k (Table t) = Continue t
 on_kind q n k (Maps l) =
-    Stop
+    Break
     (pick (l.a && (owned_by q.pages l && permits k l) && eqb (l.page % 2 ^ (9 * n)) 0)
-    (To (l.page * 4096 + q.address % 2 ^ page_bits_of n))
+    (Ok (l.page * 4096 + q.address % 2 ^ page_bits_of n))
     (faulted q))
 
 is-kind : (q : Lookup) (n : ℕ) (d : Entry) → on_kind q n (asked_of q.purpose q.access) d ≡ on_entry q n d
@@ -55,14 +54,14 @@ module _ (q : Lookup) (n page : ℕ) where
   step k = to_step q.purpose q.access k
 
   -- the joined tests of a leaf, and the nested ones
-  joined : (a o p al : Bool) → step (pick (a && o && p && al) (Arrive place) Faulty) ≡ Stop (pick (a && (o && p) && al) (To place) (faulted q))
+  joined : (a o p al : Bool) → step (pick (a && o && p && al) (Arrive place) Faulty) ≡ Break (pick (a && (o && p) && al) (Ok place) (faulted q))
   joined false o p al = refl
   joined true false p al = refl
   joined true true false al = refl
   joined true true true false = refl
   joined true true true true = refl
 
-  dead : (a o al : Bool) → step (pick (a && o && false && al) (Arrive place) Faulty) ≡ Stop (faulted q)
+  dead : (a o al : Bool) → step (pick (a && o && false && al) (Arrive place) Faulty) ≡ Break (faulted q)
   dead false o al = refl
   dead true false al = refl
   dead true true al = refl
@@ -106,8 +105,8 @@ module _ (q : Lookup) (n page : ℕ) where
 -- a loaded entry
 pub tested : (q : Lookup) (n : ℕ) (v : Load) → to_step q.purpose q.access (raw_load (test_of (asked_of q.purpose q.access) q.pages) q.address n v) ≡ on_load q n v
 unfolding raw_load on_load entry_of table_bits
-tested q n Violation = refl
-tested q n (Value e) =
+tested q n None = refl
+tested q n (Some e) =
     let k = asked_of q.purpose q.access in
     ap (λ (b : Bool). step q n (entry_page e) (pick (table_bits e) (Next (entry_page e)) (pick (b && al q n (entry_page e)) (Arrive (place q n (entry_page e))) Faulty))) (leaf_bits_lem k q.pages e)
     ∙ table_of-bits q n (entry_page e) (bit e 0) (eqb (bits e 63 54) 0) (bit e 1) (bit e 2) (bit e 3) (bit e 4) (bit e 6) (bit e 7) (asked_of q.purpose q.access)

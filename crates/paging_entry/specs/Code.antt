@@ -1,20 +1,18 @@
 -- An entry as the code looks at it: a non-leaf by tests of its bits joined by `&`, a leaf by a mask made before the walk, and steps that carry no cause. Nothing that a reader has to believe: `paging_entry.EntryLaws.tested` and `paging_entry.EntryLaws.coded` show that it says what `Entry` says.
-use Rattle.std.specs.Prelude.{ℕ, ◌+◌, ◌*◌, ◌%◌, ◌^◌, ◌<◌, Bool, not, ◌&&◌, eqb, ltb}
+use Rattle.std.specs.Prelude.{ℕ, ◌+◌, ◌*◌, ◌%◌, ◌^◌, ◌<◌, Bool, not, ◌&&◌, eqb, ltb, Err, None, Ok, Some}
 use Rattle.std.specs.Int.Bits.{bit_and}
 use Rattle.memory.specs.Choice.{pick}
 use Rattle.memory.specs.Bits.{bits, bit}
-use Rattle.memory.specs.declared.Load.{Load}
-use Rattle.memory.specs.declared.Load.TheVariants.{Value, Violation}
+use Rattle.memory.specs.Load.{Load}
 use Rattle.causes.specs.declared.Access.{Access}
 use Rattle.causes.specs.declared.Access.TheVariants.{Read, Write, Execute}
 use Rattle.paging_entry.specs.declared.Purpose.{Purpose}
 use Rattle.paging_entry.specs.declared.Pages.{Pages}
 use Rattle.paging_entry.specs.declared.Pages.TheVariants.{User, Supervisor, Any}
 use Rattle.paging_entry.specs.declared.LeafTest.{LeafTest}
-use Rattle.paging_entry.specs.declared.Translation.{Translation}
-use Rattle.paging_entry.specs.declared.Translation.TheVariants.{To, Fault}
-use Rattle.paging_entry.specs.declared.Step.{Step}
-use Rattle.paging_entry.specs.declared.Step.TheVariants.{Stop}
+use Rattle.paging_entry.specs.Purpose.{Translation}
+use Rattle.paging_entry.specs.Purpose.{Step}
+use Rattle.std.specs.declared.ops.ControlFlow.TheVariants.{Break, Continue}
 use Rattle.paging_entry.specs.declared.Raw.{Raw}
 use Rattle.paging_entry.specs.declared.Raw.TheVariants.{Arrive, Next, Faulty, Unread}
 use Rattle.paging_scheme.specs.Scheme.{page_bits_of}
@@ -61,25 +59,25 @@ leaf_bits e t = eqb (bit_and e t.mask) t.want && not (eqb (bit_and e 6) 4)
 
 -- what a loaded entry of level n leads to
 unfoldable pub raw_load : LeafTest → ℕ → ℕ → Load → Raw
-raw_load t a n Violation = Unread
-raw_load t a n (Value e) =
+raw_load t a n None = Unread
+raw_load t a n (Some e) =
     pick (table_bits e)
     (Next (entry_page e))
     (pick (leaf_bits e t && eqb (entry_page e % 2 ^ (9 * n)) 0) (Arrive (entry_page e * 4096 + a % 2 ^ page_bits_of n)) Faulty)
 
 -- with its cause
 abbrev pub to_step : Purpose → Access → Raw → Step
-to_step p x (Arrive a) = Stop (To a)
-to_step p x (Next table) = Step.Next table
-to_step p x Faulty = Stop (Fault (page_fault_of p x))
-to_step p x Unread = Stop (Fault (access_fault_of p x))
+to_step p x (Arrive a) = Break (Ok a)
+to_step p x (Next table) = Continue table
+to_step p x Faulty = Break (Err (page_fault_of p x))
+to_step p x Unread = Break (Err (access_fault_of p x))
 
 -- at the end of a walk, where a non-leaf is a fault
 abbrev pub told_of : Purpose → Access → Raw → Translation
-told_of p x (Arrive a) = To a
-told_of p x (Next table) = Fault (page_fault_of p x)
-told_of p x Faulty = Fault (page_fault_of p x)
-told_of p x Unread = Fault (access_fault_of p x)
+told_of p x (Arrive a) = Ok a
+told_of p x (Next table) = Err (page_fault_of p x)
+told_of p x Faulty = Err (page_fault_of p x)
+told_of p x Unread = Err (access_fault_of p x)
 
 -- the end of a walk as one number: an address, or one of two that no address is
 abbrev pub faulty_end : ℕ
@@ -95,7 +93,7 @@ code_of Faulty = faulty_end
 code_of Unread = unread_end
 
 abbrev pub told_by : Purpose → Access → ℕ → Translation
-told_by p x r = pick (ltb r faulty_end) (To r) (pick (eqb r faulty_end) (Fault (page_fault_of p x)) (Fault (access_fault_of p x)))
+told_by p x r = pick (ltb r faulty_end) (Ok r) (pick (eqb r faulty_end) (Err (page_fault_of p x)) (Err (access_fault_of p x)))
 
 -- bounds that sums need
 abbrev pub Tight : Raw → Type 0

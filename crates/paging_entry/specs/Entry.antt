@@ -1,9 +1,8 @@
 -- A page-table entry (01, "The two walks": "An entry faults if ..").
-use Rattle.std.specs.Prelude.{ℕ, ◌+◌, ◌*◌, ◌%◌, ◌^◌, Bool, true, false, ◌&&◌, not, eqb}
+use Rattle.std.specs.Prelude.{ℕ, ◌+◌, ◌*◌, ◌%◌, ◌^◌, Bool, true, false, ◌&&◌, not, eqb, Err, None, Ok, Some}
 use Rattle.memory.specs.Choice.{pick}
 use Rattle.memory.specs.Bits.{bits, bit, any_set}
-use Rattle.memory.specs.declared.Load.{Load}
-use Rattle.memory.specs.declared.Load.TheVariants.{Value, Violation}
+use Rattle.memory.specs.Load.{Load}
 use Rattle.causes.specs.declared.Access.{Access}
 use Rattle.causes.specs.declared.Access.TheVariants.{Read, Write, Execute}
 use Rattle.paging_entry.specs.declared.Pages.{Pages}
@@ -12,10 +11,9 @@ use Rattle.paging_entry.specs.declared.Lookup.{Lookup}
 use Rattle.paging_entry.specs.declared.Leaf.{Leaf}
 use Rattle.paging_entry.specs.declared.Entry.{Entry}
 use Rattle.paging_entry.specs.declared.Entry.TheVariants.{Faulty, Table, Maps}
-use Rattle.paging_entry.specs.declared.Translation.{Translation}
-use Rattle.paging_entry.specs.declared.Translation.TheVariants.{To, Fault}
-use Rattle.paging_entry.specs.declared.Step.{Step}
-use Rattle.paging_entry.specs.declared.Step.TheVariants.{Stop, Next}
+use Rattle.paging_entry.specs.Purpose.{Translation}
+use Rattle.paging_entry.specs.Purpose.{Step}
+use Rattle.std.specs.declared.ops.ControlFlow.TheVariants.{Break, Continue}
 use Rattle.paging_scheme.specs.Scheme.{page_bits_of}
 use Rattle.paging_entry.specs.Purpose.{asked_of, page_fault_of, access_fault_of}
 
@@ -78,18 +76,18 @@ allows q l = l.a && (owned_by q.pages l && permits (asked_of q.purpose q.access)
 unfoldable pub mapped_by : Lookup → ℕ → Leaf → Translation
 mapped_by q n l =
     pick (allows q l && eqb (l.page % 2 ^ (9 * n)) 0)
-    (To (l.page * 4096 + q.address % 2 ^ page_bits_of n))
-    (Fault (page_fault_of q.purpose q.access))
+    (Ok (l.page * 4096 + q.address % 2 ^ page_bits_of n))
+    (Err (page_fault_of q.purpose q.access))
 
 abbrev pub faulted : Lookup → Translation
-faulted q = Fault (page_fault_of q.purpose q.access)
+faulted q = Err (page_fault_of q.purpose q.access)
 
 -- what an entry of level n leads to
 abbrev pub on_entry : Lookup → ℕ → Entry → Step
-on_entry q n Faulty = Stop (faulted q)
-on_entry q n (Table page) = Next page
-on_entry q n (Maps l) = Stop (mapped_by q n l)
+on_entry q n Faulty = Break (faulted q)
+on_entry q n (Table page) = Continue page
+on_entry q n (Maps l) = Break (mapped_by q n l)
 
 unfoldable pub on_load : Lookup → ℕ → Load → Step
-on_load q n Violation = Stop (Fault (access_fault_of q.purpose q.access))
-on_load q n (Value e) = on_entry q n (entry_of e)
+on_load q n None = Break (Err (access_fault_of q.purpose q.access))
+on_load q n (Some e) = on_entry q n (entry_of e)

@@ -1,4 +1,7 @@
 -- What a walk's purpose decides: the permission that it asks of the page, and its faults (01, "The two walks" and the list of stages; D1, D2, D7).
+use Rattle.std.specs.Prelude.{ℕ}
+use Rattle.std.specs.declared.result.Result.{Result}
+use Rattle.std.specs.declared.ops.ControlFlow.{ControlFlow}
 use Rattle.causes.specs.Causes.{access_fault, page_fault, guest_page_fault, fault_at}
 use Rattle.causes.specs.declared.Access.{Access}
 use Rattle.causes.specs.declared.Access.TheVariants.{Read}
@@ -6,6 +9,14 @@ use Rattle.causes.specs.declared.Stage.TheVariants.{First, Second, ProcessDirect
 use Rattle.causes.specs.declared.FaultInfo.{FaultInfo}
 use Rattle.paging_entry.specs.declared.Purpose.{Purpose}
 use Rattle.paging_entry.specs.declared.Purpose.TheVariants.{FirstStage, SecondStage, FirstStageEntry, ProcessEntry}
+
+-- what a translation answers: an address, or a fault
+abbrev pub Translation : Type 0
+Translation = Result ℕ FaultInfo
+
+-- what one level of a walk leads to: its end, or the page of the next table
+abbrev pub Step : Type 0
+Step = ControlFlow Translation ℕ
 
 -- the access that the page must permit: an implicit access is a read, whatever the device asked
 abbrev pub asked_of : Purpose → Access → Access

@@ -10,10 +10,10 @@ ghost use Rattle.paging_entry.specs.Entry.{pages_for};
 ghost use Rattle.paging_entry.specs.Code.{sound_bits, table_bits, access_bits, owner_mask, owner_want, test_of, leaf_bits, raw_load, to_step, told_by, Tight};
 
 use causes::{Access, FaultInfo, Stage};
-use memory::Load;
+use std::ops::ControlFlow;
 
 // Why one table is walked; permission, causes and stages go by it.
-#[derive(Clone, Copy)]
+#[derive(Clone, Copy, Debug, PartialEq, Eq)]
 pub enum Purpose {
     // The device's address, by the first stage.
     FirstStage,
@@ -26,7 +26,7 @@ pub enum Purpose {
 }
 
 // The pages that may be used, by their U bit.
-#[derive(Clone, Copy)]
+#[derive(Clone, Copy, Debug, PartialEq, Eq)]
 pub enum Pages {
     // U = 1.
     User,
@@ -37,7 +37,7 @@ pub enum Pages {
 }
 
 // What is asked of one table.
-#[derive(Clone, Copy)]
+#[derive(Clone, Copy, Debug, PartialEq, Eq)]
 pub struct Lookup {
     pub address: u64,
     pub access: Access,
@@ -46,7 +46,7 @@ pub struct Lookup {
 }
 
 // A page-table entry that maps a page, as the definitions speak of it; the code tests its bits in place.
-#[derive(Clone, Copy)]
+#[derive(Clone, Copy, Debug, PartialEq, Eq)]
 pub struct Leaf {
     pub r: bool,
     pub w: bool,
@@ -58,22 +58,15 @@ pub struct Leaf {
 }
 
 // What a page-table entry says.
-#[derive(Clone, Copy)]
+#[derive(Clone, Copy, Debug, PartialEq, Eq)]
 pub enum Entry {
     Faulty,
     Table(u64),
     Maps(Leaf),
 }
 
-// What a translation answers.
-#[derive(Clone, Copy)]
-pub enum Translation {
-    To(u64),
-    Fault(FaultInfo),
-}
-
-// What an entry leads to, before a fault is given its cause.
-#[derive(Clone, Copy)]
+// What an entry leads to, before a fault is given its cause: four cases, so no Option or Result.
+#[derive(Clone, Copy, Debug, PartialEq, Eq)]
 pub enum Raw {
     Arrive(u64),
     Next(u64),
@@ -82,17 +75,10 @@ pub enum Raw {
 }
 
 // What a walk asks of a leaf, as numbers: an entry's test then has no branch by access or pages, and no bit is picked out by itself.
-#[derive(Clone, Copy)]
+#[derive(Clone, Copy, Debug, PartialEq, Eq)]
 pub struct LeafTest {
     pub mask: u64,
     pub want: u64,
-}
-
-// What one level of a walk leads to.
-#[derive(Clone, Copy)]
-pub enum Step {
-    Stop(Translation),
-    Next(u64),
 }
 
 fn sound(e: u64) -> bool
@@ -102,6 +88,7 @@ fn sound(e: u64) -> bool
 }
 
 // A non-leaf. Tests joined by `&` become one mask and one compare.
+#[tactic(auto, using(crate::proofs::CodeLaws::bit_ways))]
 fn is_table(e: u64) -> bool
     ensures { result ≡ table_bits e }
 {
@@ -127,7 +114,7 @@ pub fn pages_for(supervisor: bool, sum: bool, x: Access) -> Pages
     Pages::User
 }
 
-// The bits that an access needs of a leaf: R (2); with it W (4) and D (128), since nothing here marks a page as written; X (8).
+// The bits that an access needs of a leaf: R (2); with it W (4) and D (128), since nothing here marks a page as written; X (8). Here and below a table, a row a case.
 fn access_bits(x: Access) -> u64
     ensures { (result ≡ access_bits x) × (result < 256) }
 {
@@ -143,8 +130,7 @@ fn owner_mask(pages: Pages) -> u64
     ensures { (result ≡ owner_mask pages) × (result < 256) }
 {
     match pages {
-        Pages::User => 16,
-        Pages::Supervisor => 16,
+        Pages::User | Pages::Supervisor => 16,
         Pages::Any => 0,
     }
 }
@@ -155,8 +141,7 @@ fn owner_want(pages: Pages) -> u64
 {
     match pages {
         Pages::User => 16,
-        Pages::Supervisor => 0,
-        Pages::Any => 0,
+        Pages::Supervisor | Pages::Any => 0,
     }
 }
 
@@ -183,10 +168,8 @@ pub fn asked(p: Purpose, x: Access) -> Access
     ensures { result ≡ asked_of p x }
 {
     match p {
-        Purpose::FirstStage => x,
-        Purpose::SecondStage => x,
-        Purpose::FirstStageEntry => Access::Read,
-        Purpose::ProcessEntry => Access::Read,
+        Purpose::FirstStage | Purpose::SecondStage => x,
+        Purpose::FirstStageEntry | Purpose::ProcessEntry => Access::Read,
     }
 }
 
@@ -207,9 +190,9 @@ pub fn page_fault(p: Purpose, x: Access) -> FaultInfo
             cause: causes::page_fault(x),
             stage: Stage::First,
         },
-        Purpose::SecondStage => guest_fault(causes::guest_page_fault(x)),
-        Purpose::FirstStageEntry => guest_fault(causes::guest_page_fault(x)),
-        Purpose::ProcessEntry => guest_fault(causes::guest_page_fault(x)),
+        Purpose::SecondStage | Purpose::FirstStageEntry | Purpose::ProcessEntry => {
+            guest_fault(causes::guest_page_fault(x))
+        }
     }
 }
 
@@ -221,8 +204,7 @@ pub fn access_fault(p: Purpose, x: Access) -> FaultInfo
             cause: causes::access_fault(x),
             stage: Stage::First,
         },
-        Purpose::SecondStage => guest_fault(causes::access_fault(x)),
-        Purpose::FirstStageEntry => guest_fault(causes::access_fault(x)),
+        Purpose::SecondStage | Purpose::FirstStageEntry => guest_fault(causes::access_fault(x)),
         Purpose::ProcessEntry => FaultInfo {
             cause: 265,
             stage: Stage::ProcessDirectory,
@@ -231,11 +213,12 @@ pub fn access_fault(p: Purpose, x: Access) -> FaultInfo
 }
 
 // What a loaded entry of level n leads to, by the level's shift.
-pub fn read_entry(t: LeafTest, a: u64, n: u64, shift: u64, v: Load) -> Raw
+#[tactic(auto, using(crate::proofs::CodeLaws::entry_ways))]
+pub fn read_entry(t: LeafTest, a: u64, n: u64, shift: u64, v: Option<u64>) -> Raw
     requires { (n < 5) × (shift ≡ page_bits_of n) }
     ensures { (result ≡ raw_load t a n v) × Tight result }
 {
-    let Load::Value(e) = v else {
+    let Some(e) = v else {
         return Raw::Unread;
     };
     let page = memory::field(e, 53, 10);
@@ -252,32 +235,32 @@ pub fn read_entry(t: LeafTest, a: u64, n: u64, shift: u64, v: Load) -> Raw
     Raw::Faulty
 }
 
-// Ends of a walk that no address is.
+// Ends of a walk that no address is. An end is one number, so that it comes back in a register: with an enum short walks ran at two thirds of the rate (D72).
 pub const FAULTY: u64 = 0x8000_0000_0000_0000;
 
 pub const UNREAD: u64 = 0x8000_0000_0000_0001;
 
-// The end of a walk, with its cause.
-pub fn told(p: Purpose, x: Access, r: u64) -> Translation
+// The end of a walk, with its cause: the number becomes a Result.
+pub fn told(p: Purpose, x: Access, r: u64) -> Result<u64, FaultInfo>
     ensures { result ≡ told_by p x r }
 {
     if r < FAULTY {
-        return Translation::To(r);
+        return Ok(r);
     }
     if r == FAULTY {
-        return Translation::Fault(page_fault(p, x));
+        return Err(page_fault(p, x));
     }
-    Translation::Fault(access_fault(p, x))
+    Err(access_fault(p, x))
 }
 
 // A level of a walk, with its cause.
-pub fn stepped(p: Purpose, x: Access, r: Raw) -> Step
+pub fn stepped(p: Purpose, x: Access, r: Raw) -> ControlFlow<Result<u64, FaultInfo>, u64>
     ensures { result ≡ to_step p x r }
 {
     match r {
-        Raw::Arrive(a) => Step::Stop(Translation::To(a)),
-        Raw::Next(table) => Step::Next(table),
-        Raw::Faulty => Step::Stop(Translation::Fault(page_fault(p, x))),
-        Raw::Unread => Step::Stop(Translation::Fault(access_fault(p, x))),
+        Raw::Arrive(a) => ControlFlow::Break(Ok(a)),
+        Raw::Next(table) => ControlFlow::Continue(table),
+        Raw::Faulty => ControlFlow::Break(Err(page_fault(p, x))),
+        Raw::Unread => ControlFlow::Break(Err(access_fault(p, x))),
     }
 }

@@ -6,7 +6,7 @@ ghost use Rattle.paging_scheme.specs.Scheme.{levels_of, root_bits_of, address_bi
 ghost use Rattle.paging_scheme.specs.Code.{free_bits_of};
 
 // The page-table schemes (01, "Fixed capabilities"; 02, Req 03).
-#[derive(Clone, Copy)]
+#[derive(Clone, Copy, Debug, PartialEq, Eq)]
 pub enum Scheme {
     Sv39,
     Sv48,
@@ -16,7 +16,7 @@ pub enum Scheme {
     Sv57x4,
 }
 
-// The facts of a scheme: all that a walk has to know of it.
+// The facts of a scheme, tables of the papers' with a row for each: all that a walk has to know of it.
 impl Scheme {
     pub const PAGE_BITS: u64 = 12;
 
@@ -26,12 +26,9 @@ impl Scheme {
         ensures { (result ≡ levels_of self) × (result < 6) × (0 < result) }
     {
         match self {
-            Scheme::Sv39 => 3,
-            Scheme::Sv48 => 4,
-            Scheme::Sv57 => 5,
-            Scheme::Sv39x4 => 3,
-            Scheme::Sv48x4 => 4,
-            Scheme::Sv57x4 => 5,
+            Scheme::Sv39 | Scheme::Sv39x4 => 3,
+            Scheme::Sv48 | Scheme::Sv48x4 => 4,
+            Scheme::Sv57 | Scheme::Sv57x4 => 5,
         }
     }
 
@@ -39,12 +36,8 @@ impl Scheme {
         ensures { (result ≡ root_bits_of self) × (result < 12) }
     {
         match self {
-            Scheme::Sv39 => 9,
-            Scheme::Sv48 => 9,
-            Scheme::Sv57 => 9,
-            Scheme::Sv39x4 => 11,
-            Scheme::Sv48x4 => 11,
-            Scheme::Sv57x4 => 11,
+            Scheme::Sv39 | Scheme::Sv48 | Scheme::Sv57 => 9,
+            Scheme::Sv39x4 | Scheme::Sv48x4 | Scheme::Sv57x4 => 11,
         }
     }
 
@@ -64,14 +57,7 @@ impl Scheme {
     pub fn signed(self) -> bool
         ensures { result ≡ signed_of self }
     {
-        match self {
-            Scheme::Sv39 => true,
-            Scheme::Sv48 => true,
-            Scheme::Sv57 => true,
-            Scheme::Sv39x4 => false,
-            Scheme::Sv48x4 => false,
-            Scheme::Sv57x4 => false,
-        }
+        matches!(self, Scheme::Sv39 | Scheme::Sv48 | Scheme::Sv57)
     }
 
     // From this bit on the bits of a legal address are alike: where the highest translated bit is a sign, it is one of them.
@@ -86,6 +72,7 @@ impl Scheme {
     }
 
     // Whether they are: all 0, as most are in every scheme, or, where there is a sign, all 1. Facts first: after the branch the compiler would split by scheme.
+    #[tactic(auto, using(crate::proofs::CodeLaws::legal_ways))]
     pub fn legal(self, a: u64) -> bool
         ensures { result ≡ legal_of self a }
     {
@@ -99,6 +86,7 @@ impl Scheme {
     }
 
     // The entry of a level-n table that an address uses.
+    #[tactic(auto, using(crate::proofs::CodeLaws::index_ways))]
     pub fn index(self, a: u64, n: u64) -> u64
         requires { n < 5 }
         ensures { (result ≡ index_of self a n) × (result < 2048) }
@@ -111,6 +99,7 @@ impl Scheme {
     }
 
     // The same below the root, where all schemes are alike.
+    #[tactic(auto, using(crate::proofs::CodeLaws::below_ways))]
     pub fn below(self, a: u64, n: u64, shift: u64) -> u64
         requires { (n < 5) × (n + 1 < levels_of self) × (shift ≡ page_bits_of n) }
         ensures { (result ≡ index_of self a n) × (result < 2048) }

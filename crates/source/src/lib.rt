@@ -6,23 +6,24 @@ ghost use Rattle.source.specs.Source.{mode_from, wired_of, level_of, low_of, by_
 ghost use Rattle.source.specs.Source.{direct_of, first_target, configured_target, target_of, aimed_target};
 
 // How a domain delivers interrupts.
-#[derive(Clone, Copy)]
+#[derive(Clone, Copy, Debug, PartialEq, Eq)]
 pub enum Delivery {
     Direct,
     Message,
 }
 
-#[derive(Clone, Copy)]
+// A source's mode, by its number; 2 and 3 are reserved.
+#[derive(Clone, Copy, Debug, PartialEq, Eq)]
 pub enum Mode {
-    Inactive,
-    Detached,
-    Edge1,
-    Edge0,
-    Level1,
-    Level0,
+    Inactive = 0,
+    Detached = 1,
+    Edge1 = 4,
+    Edge0 = 5,
+    Level1 = 6,
+    Level0 = 7,
 }
 
-#[derive(Clone, Copy)]
+#[derive(Clone, Copy, Debug, PartialEq, Eq)]
 pub struct Source {
     pub mode: Mode,
     pub wire: bool,
@@ -31,121 +32,103 @@ pub struct Source {
     pub target: u32,
 }
 
-pub fn is_direct(d: Delivery) -> bool
-    ensures { result ≡ direct_of d }
-{
-    match d {
-        Delivery::Direct => true,
-        Delivery::Message => false,
+impl Delivery {
+    pub fn is_direct(self) -> bool
+        ensures { result ≡ direct_of self }
+    {
+        self == Delivery::Direct
     }
 }
 
-// From the three bits of a mode's number: attached to the wire, level-sensitive, the lowest bit.
-pub fn mode_from(wired: bool, level: bool, low: bool) -> Mode
-    ensures { result ≡ mode_from wired level low }
-{
-    if wired {
-        if level {
-            if low {
-                return Mode::Level0;
-            }
-            return Mode::Level1;
+impl From<Mode> for u32 {
+    ghost from_gives = { λ m n. n ≡ number_of m };
+
+    fn from(m: Mode) -> u32 {
+        m as u32
+    }
+}
+
+// A reserved number is kept as 0.
+impl From<u32> for Mode {
+    ghost from_gives = { λ n m. m ≡ by_number n };
+
+    fn from(n: u32) -> Mode {
+        match n {
+            1 => Mode::Detached,
+            4 => Mode::Edge1,
+            5 => Mode::Edge0,
+            6 => Mode::Level1,
+            7 => Mode::Level0,
+            _ => Mode::Inactive,
         }
-        if low {
-            return Mode::Edge0;
+    }
+}
+
+impl Mode {
+    // From the three bits of its number: attached to the wire, level-sensitive, the lowest bit.
+    pub fn of_bits(wired: bool, level: bool, low: bool) -> Mode
+        ensures { result ≡ mode_from wired level low }
+    {
+        match (wired, level, low) {
+            (true, true, true) => Mode::Level0,
+            (true, true, false) => Mode::Level1,
+            (true, false, true) => Mode::Edge0,
+            (true, false, false) => Mode::Edge1,
+            (false, _, true) => Mode::Detached,
+            (false, _, false) => Mode::Inactive,
         }
-        return Mode::Edge1;
     }
-    if low {
-        return Mode::Detached;
-    }
-    Mode::Inactive
-}
 
-pub fn number(m: Mode) -> u32
-    ensures { result ≡ number_of m }
-{
-    match m {
-        Mode::Inactive => 0,
-        Mode::Detached => 1,
-        Mode::Edge1 => 4,
-        Mode::Edge0 => 5,
-        Mode::Level1 => 6,
-        Mode::Level0 => 7,
+    // The three bits of its number.
+    pub fn is_wired(self) -> bool
+        ensures { result ≡ wired_of self }
+    {
+        u32::from(self) / 4 % 2 == 1
     }
-}
 
-// The three bits of a mode's number.
-pub fn is_wired(m: Mode) -> bool
-    ensures { result ≡ wired_of m }
-{
-    number(m) / 4 % 2 == 1
-}
-
-pub fn is_level(m: Mode) -> bool
-    ensures { result ≡ level_of m }
-{
-    number(m) / 2 % 2 == 1
-}
-
-pub fn is_low(m: Mode) -> bool
-    ensures { result ≡ low_of m }
-{
-    number(m) % 2 == 1
-}
-
-// 2 and 3 are reserved.
-fn by_number(n: u32) -> Mode
-    ensures { result ≡ by_number n }
-{
-    if n == 1 {
-        return Mode::Detached;
+    pub fn is_level(self) -> bool
+        ensures { result ≡ level_of self }
+    {
+        u32::from(self) / 2 % 2 == 1
     }
-    if n == 4 {
-        return Mode::Edge1;
-    }
-    if n == 5 {
-        return Mode::Edge0;
-    }
-    if n == 6 {
-        return Mode::Level1;
-    }
-    if n == 7 {
-        return Mode::Level0;
-    }
-    Mode::Inactive
-}
 
-// The mode that a write of sourcecfg leaves: a leaf domain has no child to delegate to.
-pub fn mode_of(v: u32) -> Mode
-    ensures { result ≡ mode_of v }
-{
-    if v / 1024 % 2 == 1 {
-        return Mode::Inactive;
+    pub fn is_low(self) -> bool
+        ensures { result ≡ low_of self }
+    {
+        u32::from(self) % 2 == 1
     }
-    by_number(v % 8)
-}
 
-pub fn is_active(m: Mode) -> bool
-    ensures { result ≡ active_of m }
-{
-    number(m) != 0
-}
+    // The mode that a write of sourcecfg leaves: a leaf domain has no child to delegate to.
+    pub fn written(v: u32) -> Mode
+        ensures { result ≡ mode_of v }
+    {
+        if v / 1024 % 2 == 1 {
+            return Mode::Inactive;
+        }
+        Mode::from(v % 8)
+    }
 
-pub fn rectify(m: Mode, wire: bool) -> bool
-    ensures { result ≡ rectified m wire }
-{
-    is_wired(m) & (wire ^ is_low(m))
+    pub fn is_active(self) -> bool
+        ensures { result ≡ active_of self }
+    {
+        self != Mode::Inactive
+    }
+
+    pub fn rectify(self, wire: bool) -> bool
+        ensures { result ≡ rectified self wire }
+    {
+        self.is_wired() & (wire ^ self.is_low())
+    }
 }
 
 // The pending bit after a write of sourcecfg, with the rectified input under the new mode. By flags, not by a match: modes come in any order.
 fn configure_pending(m: Mode, wire: bool, pending: bool) -> bool
     ensures { result ≡ configured_pending m (rectified m wire) pending }
 {
-    is_active(m) & (rectify(m, wire) | pending & !is_level(m))
+    m.is_active() & (m.rectify(wire) | pending & !m.is_level())
 }
 
-// The target of a source that is made active.
+// The target of a source that is made active, by a table of two rows.
 fn first_target(d: Delivery) -> u32
     ensures { result ≡ first_target d }
 {
@@ -159,8 +142,8 @@ fn first_target(d: Delivery) -> u32
 fn configure_target(d: Delivery, old: Mode, new: Mode, target: u32) -> u32
     ensures { result ≡ configured_target d old new target }
 {
-    if is_active(new) {
-        if is_active(old) {
+    if new.is_active() {
+        if old.is_active() {
             return target;
         }
         return first_target(d);
@@ -172,20 +155,22 @@ fn configure_target(d: Delivery, old: Mode, new: Mode, target: u32) -> u32
 fn target_of(d: Delivery, v: u32) -> u32
     ensures { result ≡ target_of d v }
 {
-    if is_direct(d) {
-        if v % 256 == 0 {
-            return v / 0x4_0000 % 0x4000 * 0x4_0000 + 1;
+    match d {
+        Delivery::Direct => {
+            if v % 256 == 0 {
+                return v / 0x4_0000 % 0x4000 * 0x4_0000 + 1;
+            }
+            v / 0x4_0000 % 0x4000 * 0x4_0000 + v % 256
         }
-        return v / 0x4_0000 % 0x4000 * 0x4_0000 + v % 256;
+        Delivery::Message => v / 0x1000 % 0x10_0000 * 0x1000 + v % 2048,
     }
-    v / 0x1000 % 0x10_0000 * 0x1000 + v % 2048
 }
 
 // The target of an inactive source is read-only.
 fn aim_target(d: Delivery, m: Mode, v: u32, target: u32) -> u32
     ensures { result ≡ aimed_target d m v target }
 {
-    if is_active(m) {
+    if m.is_active() {
         return target_of(d, v);
     }
     target
@@ -193,31 +178,28 @@ fn aim_target(d: Delivery, m: Mode, v: u32, target: u32) -> u32
 
 impl Source {
     // A write of sourcecfg.
+    #[tactic(auto, unfolding(crate::specs::Source::configured))]
     pub fn configure(self, d: Delivery, v: u32) -> Source
         ensures { result ≡ configured d v self }
     {
-        let old = self.mode;
-        let m = mode_of(v);
+        let m = Mode::written(v);
         Source {
             mode: m,
-            wire: self.wire,
             pending: configure_pending(m, self.wire, self.pending),
-            enable: is_active(m) & self.enable,
-            target: configure_target(d, old, m, self.target),
+            enable: m.is_active() & self.enable,
+            target: configure_target(d, self.mode, m, self.target),
+            ..self
         }
     }
 
     // A write of target.
+    #[tactic(auto, unfolding(crate::specs::Source::aimed))]
     pub fn aim(self, d: Delivery, v: u32) -> Source
         ensures { result ≡ aimed d v self }
     {
-        let m = self.mode;
         Source {
-            mode: m,
-            wire: self.wire,
-            pending: self.pending,
-            enable: self.enable,
-            target: aim_target(d, m, v, self.target),
+            target: aim_target(d, self.mode, v, self.target),
+            ..self
         }
     }
 }

@@ -6,10 +6,10 @@ ghost use Rattle.word.specs.Word.{contains, only};
 ghost use Rattle.source.specs.Source.{raised, lowered, allowed, sensed};
 ghost use Rattle.sources.specs.Sources.{source_of, Acts, Inputs, lined, first_waiting};
 
-use source::{Delivery, Source};
+use source::{Delivery, Mode, Source};
 
 // A source's mode is three bits, those of its number: attached to the wire, level-sensitive, the lowest bit.
-#[derive(Clone, Copy)]
+#[derive(Clone, Copy, Debug, PartialEq, Eq)]
 pub struct Sources {
     pub wired: u64,
     pub level: u64,
@@ -20,32 +20,33 @@ pub struct Sources {
 }
 
 impl Sources {
+    #[tactic(auto, unfolding(crate::specs::Sources::source_of, word::specs::Word::contains))]
     pub fn row(self, n: u64, target: u32) -> Source
         requires { n < 64 }
         ensures { result ≡ source_of self n target }
     {
         Source {
-            mode: source::mode_from(
-                word::has(self.wired, n),
-                word::has(self.level, n),
-                word::has(self.low, n),
+            mode: Mode::of_bits(
+                memory::bit(self.wired, n),
+                memory::bit(self.level, n),
+                memory::bit(self.low, n),
             ),
-            wire: word::has(self.wires, n),
-            pending: word::has(self.pending, n),
-            enable: word::has(self.enable, n),
-            target: target,
+            wire: memory::bit(self.wires, n),
+            pending: memory::bit(self.pending, n),
+            enable: memory::bit(self.enable, n),
+            target,
         }
     }
 
     // With another row for source n; its target is kept elsewhere.
+    #[tactic(auto, using(crate::proofs::Rows::rows))]
     pub fn with_row(mut self, n: u64, s: Source) -> Sources
         requires { n < 64 }
         ensures { Acts (only n) (lined s) self result }
     {
-        let m = s.mode;
-        self.wired = word::put(self.wired, n, source::is_wired(m));
-        self.level = word::put(self.level, n, source::is_level(m));
-        self.low = word::put(self.low, n, source::is_low(m));
+        self.wired = word::put(self.wired, n, s.mode.is_wired());
+        self.level = word::put(self.level, n, s.mode.is_level());
+        self.low = word::put(self.low, n, s.mode.is_low());
         self.wires = word::put(self.wires, n, s.wire);
         self.pending = word::put(self.pending, n, s.pending);
         self.enable = word::put(self.enable, n, s.enable);
@@ -53,6 +54,7 @@ impl Sources {
     }
 
     // The rectified inputs.
+    #[tactic(auto, using(crate::proofs::Actions::masks))]
     pub fn inputs(self) -> u64
         ensures { Inputs self result }
     {
@@ -64,7 +66,7 @@ impl Sources {
     pub fn sense(mut self, d: Delivery, mask: u64, level: bool) -> Sources
         ensures { Acts (contains mask) (sensed d level) self result }
     {
-        let direct = word::every(source::is_direct(d));
+        let direct = word::every(d.is_direct());
         let was = self.wired & (self.wires ^ self.low);
         let wires = word::set(self.wires, mask, level);
         let now = self.wired & (wires ^ self.low);
@@ -80,7 +82,7 @@ impl Sources {
     pub fn raise(mut self, d: Delivery, mask: u64) -> Sources
         ensures { Acts (contains mask) (raised d) self result }
     {
-        let direct = word::every(source::is_direct(d));
+        let direct = word::every(d.is_direct());
         let high = word::without(self.wires ^ self.low, direct);
         let idle = word::without(self.wired & self.level, high);
         let open = word::without(self.wired | self.low, idle);
@@ -92,7 +94,7 @@ impl Sources {
     pub fn lower(mut self, d: Delivery, mask: u64) -> Sources
         ensures { Acts (contains mask) (lowered d) self result }
     {
-        let direct = word::every(source::is_direct(d));
+        let direct = word::every(d.is_direct());
         let held = self.wired & self.level & direct;
         let open = word::without(self.wired | self.low, held);
         self.pending = word::without(self.pending, mask & open);
@@ -100,6 +102,7 @@ impl Sources {
     }
 
     // Sets enable bits of active sources.
+    #[tactic(auto, using(crate::proofs::Actions::masks))]
     pub fn allow(mut self, mask: u64) -> Sources
         ensures { Acts (contains mask) (allowed true) self result }
     {
@@ -108,6 +111,7 @@ impl Sources {
     }
 
     // Clears enable bits.
+    #[tactic(auto, using(crate::proofs::Actions::masks))]
     pub fn forbid(mut self, mask: u64) -> Sources
         ensures { Acts (contains mask) (allowed false) self result }
     {
@@ -116,6 +120,7 @@ impl Sources {
     }
 
     // The lowest source that is pending and enabled, or 64.
+    #[tactic(auto, using(crate::proofs::Rows::rows))]
     pub fn first(self) -> u64
         ensures { result ≡ first_waiting self }
     {

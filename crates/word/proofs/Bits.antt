@@ -437,12 +437,8 @@ every-on on i e h = full 64 i (within i h).1 ∙ sym e
 pub every-off : (on : Bool) (i : ℕ) → on ≡ false → is_source i ≡ true → contains 0 i ≡ on
 every-off on i e h = zero-digit i ∙ sym e
 
-pub has-is : (x n : ℕ) → eqb (x / 2 ^ n % 2) 1 ≡ contains x n
-unfolding contains
-has-is x n = refl
-
 pub bit-set : (i x m : ℕ) (on : Bool) → bit i (set_of x m on) ≡ pick on (bit i x || bit i m) (bit i x && not (bit i m))
 bit-set i x m true = bit_or_lem i x m
 bit-set i x m false = bit-without i x m
 
-pub ruleset words = (and_le_l, yes-is, no-is, has-is, half_up, half_down, mask_up, mask_down, one_bit, no-bit, every-on, every-off, first-is, first_fits)
+pub ruleset words = (and_le_l, yes-is, no-is, half_up, half_down, mask_up, mask_down, one_bit, no-bit, every-on, every-off, first-is, first_fits)

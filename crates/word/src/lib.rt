@@ -1,17 +1,10 @@
-// A word as a set of the numbers 0 to 63: number i is in it where bit i is 1. Sources are 1 to 63, so bit 0 counts for nothing.
-#![tactic(auto)]
+// A word as a set of the numbers 0 to 63: number i is in it where bit i is 1. Sources are 1 to 63, so bit 0 counts for nothing. That a number is below 64 stands in clauses: a type for one number is no plainer.
+#![tactic(auto, using(crate::proofs::Bits::words))]
 
 ghost use Rattle.std.specs.Prelude.{◌≡◌, true, ◌&&◌, ℕ, ◌<◌, ◌-◌, ◌*◌, ◌/◌};
 ghost use Rattle.std.specs.Int.Bits.{bit_and};
 ghost use Rattle.memory.specs.Bits.{without as without_of};
 ghost use Rattle.word.specs.Word.{contains, put_of, set_of, half, is_source, chosen, only, lowest};
-
-pub fn has(x: u64, n: u64) -> bool
-    requires { n < 64 }
-    ensures { result ≡ contains x n }
-{
-    (x >> n) % 2 == 1
-}
 
 // The numbers of x that m doesn't have.
 pub fn without(x: u64, m: u64) -> u64
@@ -24,10 +17,7 @@ pub fn put(x: u64, n: u64, on: bool) -> u64
     requires { n < 64 }
     ensures { result ≡ put_of x n on }
 {
-    if on {
-        return x | 1 << n;
-    }
-    without(x, 1 << n)
+    set(x, 1 << n, on)
 }
 
 // All numbers of a mask, put in or taken out.

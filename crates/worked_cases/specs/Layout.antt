@@ -1,7 +1,7 @@
 -- The memory of the worked cases (01, "Cases"): "Message context: mask 3, pattern 0x80004, first stage Bare".
 use Rattle.std.specs.Prelude.{ℕ, ◌-◌, false, List, [], ◌∷◌, ◌++◌, replicate}
 use Rattle.causes.specs.declared.Access.{Access}
-use Rattle.directory_process.specs.declared.ProcessId.{ProcessId}
+use Rattle.directory_process.specs.Found.{ProcessId}
 use Rattle.iommu_refusals.specs.declared.DeviceRequest.{DeviceRequest}
 use Rattle.worked_rows.specs.Memory.{words}
 

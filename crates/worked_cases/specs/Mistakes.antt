@@ -1,7 +1,6 @@
 -- Four rows for mistakes that tempt (01, "Mistakes that tempt"): each is answered otherwise by a program that makes one.
-use Rattle.std.specs.Prelude.{ℕ, ◌-◌, List, [], ◌∷◌, ◌++◌, replicate}
+use Rattle.std.specs.Prelude.{ℕ, ◌-◌, List, [], ◌∷◌, ◌++◌, replicate, None}
 use Rattle.causes.specs.declared.Access.TheVariants.{Read, Write}
-use Rattle.directory_process.specs.declared.ProcessId.TheVariants.{Absent}
 use Rattle.iommu.specs.Request.{request_of}
 use Rattle.worked_rows.specs.Memory.{words, in_mode}
 use Rattle.worked_rows.specs.Rows.{Row, row, shown}
@@ -29,7 +28,7 @@ mistakes =
     -- "Passing an invalid message entry on to the second stage"
     ∷ row 2 (shown (sends (window 0xA000406 0) Read 0x80006000 0)) (4 ∷ 262 ∷ 0 ∷ 0 ∷ 4 ∷ [])
     -- "Reading first-stage entries untranslated": the root lies at guest address 0x3000, and not in the window there
-    ∷ row 3 (shown (request_of (in_mode 2) behind [] (ask 0 Absent Read 0x10000123) 0)) (0 ∷ 0xD0000123 ∷ 0 ∷ 0 ∷ [])
+    ∷ row 3 (shown (request_of (in_mode 2) behind [] (ask 0 None Read 0x10000123) 0)) (0 ∷ 0xD0000123 ∷ 0 ∷ 0 ∷ [])
     -- "offset kept" under M = 3
     ∷ row 4 (shown (sends p5 Read 0x80006123 0)) (1 ∷ 0x28001123 ∷ 0 ∷ 0 ∷ [])
     ∷ []

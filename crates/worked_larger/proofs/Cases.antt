@@ -22,7 +22,7 @@ use Rattle.directory_context.specs.Process.{process_misconfigured}
 use Rattle.directory_process.specs.Process.{process_context_at, process_context_of, process_table, first_table_of}
 use Rattle.message_recognition.specs.Recognition.{recognised, packed, extract}
 use Rattle.iommu_refusals.specs.Refusals.{bad_window, overlap, request_refusal}
-use Rattle.iommu_translation.specs.Translate.{untranslated, is_message, guest_of, stages_of, directory_of, translate_of}
+use Rattle.iommu_translation.specs.Translate.{untranslated, message_table, guest_of, stages_of, directory_of, translate_of}
 use Rattle.iommu.specs.Request.{finish, request_of}
 use Rattle.worked_rows.specs.Rows.{Agrees}
 use Rattle.worked_larger.specs.Larger.{tables, larger}
@@ -50,5 +50,5 @@ pub legal_everywhere : (s : Scheme) (a : ℕ) → a < 2 ^ 64
 legal_everywhere s a l = legal_range s a (width_fits s).0 (width_fits s).1 l
 
 pub larger_hold : Agrees larger
-unfolding memory legal_of index_of entry_of allows mapped_by on_load level_step levels walk_of second_stage_of first_stage_of pointer_of leaf_place too_wide device_misconfigured device_context_at device_context_of process_misconfigured process_context_at process_context_of process_table first_table_of recognised packed extract bad_window overlap request_refusal untranslated is_message guest_of stages_of directory_of translate_of finish request_of tables larger
+unfolding memory legal_of index_of entry_of allows mapped_by on_load level_step levels walk_of second_stage_of first_stage_of pointer_of leaf_place too_wide device_misconfigured device_context_at device_context_of process_misconfigured process_context_at process_context_of process_table first_table_of recognised packed extract bad_window overlap request_refusal untranslated message_table guest_of stages_of directory_of translate_of finish request_of tables larger
 larger_hold = (refl, (refl, (refl, (refl, (refl, (refl, (refl, (refl, (refl, (refl, (refl, (refl, (refl, (refl, (refl, (refl, (refl, (refl, (refl, (refl, (refl, (refl, (refl, (refl, (refl, (refl, (refl, (refl, (refl, (refl, (refl, tt)))))))))))))))))))))))))))))))

@@ -1,5 +1,5 @@
 -- Req 03 of document 02 in one table: the limits of the six schemes, the 259 and 267 checks that it amends, large pages, and each pair of schemes through the whole request.
-use Rattle.std.specs.Prelude.{ℕ, ◌+◌, ◌-◌, ◌*◌, ◌^◌, false, List, [], ◌∷◌, ◌++◌, map, eqb, replicate}
+use Rattle.std.specs.Prelude.{ℕ, ◌+◌, ◌-◌, ◌*◌, ◌^◌, false, List, [], ◌∷◌, ◌++◌, map, eqb, replicate, Err, None, Ok}
 use Rattle.memory.specs.Choice.{pick}
 use Rattle.causes.specs.declared.Access.TheVariants.{Read}
 use Rattle.paging_scheme.specs.Scheme.{legal_of}
@@ -8,11 +8,9 @@ use Rattle.paging.specs.Stages.{guest_lookup}
 use Rattle.paging_scheme.specs.declared.Scheme.{Scheme}
 use Rattle.paging_scheme.specs.declared.Scheme.TheVariants.{Sv39, Sv48, Sv57, Sv39x4, Sv48x4, Sv57x4}
 use Rattle.paging_entry.specs.declared.Purpose.TheVariants.{SecondStage}
-use Rattle.paging_entry.specs.declared.Translation.{Translation}
-use Rattle.paging_entry.specs.declared.Translation.TheVariants.{To, Fault}
+use Rattle.paging_entry.specs.Purpose.{Translation}
 use Rattle.directory_context.specs.Device.{device_misconfigured}
 use Rattle.directory_context.specs.Process.{process_misconfigured}
-use Rattle.directory_process.specs.declared.ProcessId.TheVariants.{Absent}
 use Rattle.message_recognition.specs.Recognition.{recognised, file_number}
 use Rattle.iommu.specs.Request.{request_of}
 use Rattle.worked_rows.specs.Memory.{words}
@@ -47,8 +45,8 @@ roots mode = map (λ page. wrong (mode * 2 ^ 60 + page) 0 0 0) (0x40004 ∷ 0x40
 
 -- a translation's address, or the cause of its fault
 abbrev address : Translation → ℕ
-address (To a) = a
-address (Fault f) = f.cause
+address (Ok a) = a
+address (Err f) = f.cause
 
 -- a leaf of level n with a page number, for the guest address 2^59 - 1: V, R, W, X, U, A and D
 abbrev large : ℕ → ℕ → ℕ
@@ -83,7 +81,7 @@ read_at first second a =
     []
     (record {
       device = 4 * first + second;
-      process = Absent;
+      process = None;
       supervisor = false;
       access = Read;
       address = a;

@@ -1,9 +1,8 @@
 -- Req 02 of document 02 in one table: each privilege under each SUM, on a page with each U, by each access.
-use Rattle.std.specs.Prelude.{ℕ, ◌-◌, Bool, true, false, List, [], ◌∷◌, ◌++◌, replicate}
+use Rattle.std.specs.Prelude.{ℕ, ◌-◌, Bool, true, false, List, [], ◌∷◌, ◌++◌, replicate, Some}
 use Rattle.memory.specs.Choice.{pick}
 use Rattle.causes.specs.declared.Access.{Access}
 use Rattle.causes.specs.declared.Access.TheVariants.{Read, Write, Execute}
-use Rattle.directory_process.specs.declared.ProcessId.TheVariants.{Given}
 use Rattle.iommu_refusals.specs.declared.DeviceRequest.{DeviceRequest}
 use Rattle.iommu.specs.Request.{request_of}
 use Rattle.worked_rows.specs.Memory.{words, in_mode}
@@ -23,7 +22,7 @@ abbrev asks : Bool → Bool → Bool → Access → DeviceRequest
 asks supervisor sum u x =
     record {
       device = 0;
-      process = Given (one sum);
+      process = Some (one sum);
       supervisor = supervisor;
       access = x;
       address = pick u 0x40001234 0x1234;

@@ -18,7 +18,7 @@ use Rattle.interrupt_file.specs.Bit.{bit_at, with_bit, without_bit}
 use Rattle.interrupt_file.specs.File.{is_file, pending_of, after_store, after_take}
 use Rattle.interrupt_file.specs.Report.{pairs_of, count_of}
 use Rattle.iommu_refusals.specs.Refusals.{bad_window, overlap, request_refusal, take_refusal, report_refusal}
-use Rattle.iommu_translation.specs.Translate.{untranslated, is_message, guest_of, stages_of, directory_of, translate_of}
+use Rattle.iommu_translation.specs.Translate.{untranslated, message_table, guest_of, stages_of, directory_of, translate_of}
 use Rattle.iommu.specs.Request.{storable_as, finish, request_of, after_request}
 use Rattle.iommu_files.specs.Files.{take_of, after_take_of, report_of}
 use Rattle.worked_rows.specs.Memory.{words}
@@ -26,5 +26,5 @@ use Rattle.worked_rows.specs.Rows.{Agrees}
 use Rattle.worked_tables.specs.Tables.{directory, messages, close, tables}
 
 pub tables_hold : Agrees tables
-unfolding ones_in ones memory part_of legal_of index_of entry_of allows mapped_by on_load level_step levels walk_of second_stage_of first_stage_of pointer_of leaf_place too_wide device_misconfigured device_context_at device_context_of process_misconfigured process_context_at process_context_of process_table first_table_of recognised packed extract translate_reserved record_reserved on_notice on_translate on_message_entry message_of bit_at with_bit without_bit is_file pending_of after_store after_take pairs_of count_of bad_window overlap request_refusal take_refusal report_refusal untranslated is_message guest_of stages_of directory_of translate_of storable_as finish request_of after_request take_of after_take_of report_of words directory messages close tables
+unfolding ones_in ones memory part_of legal_of index_of entry_of allows mapped_by on_load level_step levels walk_of second_stage_of first_stage_of pointer_of leaf_place too_wide device_misconfigured device_context_at device_context_of process_misconfigured process_context_at process_context_of process_table first_table_of recognised packed extract translate_reserved record_reserved on_notice on_translate on_message_entry message_of bit_at with_bit without_bit is_file pending_of after_store after_take pairs_of count_of bad_window overlap request_refusal take_refusal report_refusal untranslated message_table guest_of stages_of directory_of translate_of storable_as finish request_of after_request take_of after_take_of report_of words directory messages close tables
 tables_hold = (refl, (refl, (refl, (refl, (refl, (refl, (refl, (refl, (refl, (refl, (refl, (refl, tt))))))))))))

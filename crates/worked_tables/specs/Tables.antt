@@ -1,8 +1,7 @@
 -- Req 06 of document 02 in one table: a store is refused exactly where its file lies in the page of the request's device context or of its message entry.
-use Rattle.std.specs.Prelude.{ℕ, ◌+◌, ◌-◌, ◌*◌, false, List, [], ◌∷◌, ◌++◌, replicate, set}
+use Rattle.std.specs.Prelude.{ℕ, ◌+◌, ◌-◌, ◌*◌, false, List, [], ◌∷◌, ◌++◌, replicate, set, None}
 use Rattle.memory.specs.Window.{Lent, lent_at}
 use Rattle.causes.specs.declared.Access.TheVariants.{Write}
-use Rattle.directory_process.specs.declared.ProcessId.TheVariants.{Absent}
 use Rattle.iommu.specs.Operations.{Op, request, take, answer_of, after_of}
 use Rattle.worked_rows.specs.Memory.{words}
 use Rattle.worked_rows.specs.Rows.{Row, row, shown}
@@ -41,7 +40,7 @@ message mode root device number identity =
     request mode root
     (record {
       device = device;
-      process = Absent;
+      process = None;
       supervisor = false;
       access = Write;
       address = 0x80000000 + 4096 * number;

@@ -1,9 +1,8 @@
 -- Req 05 of document 02 in one table: 2001 and 2011 over both windows, windows that are empty or touch, and tables, messages and files in either.
-use Rattle.std.specs.Prelude.{ℕ, ◌-◌, ◌^◌, false, List, [], ◌∷◌, ◌++◌, replicate, set}
+use Rattle.std.specs.Prelude.{ℕ, ◌-◌, ◌^◌, false, List, [], ◌∷◌, ◌++◌, replicate, set, None}
 use Rattle.memory.specs.Window.{Lent, lent_at}
 use Rattle.causes.specs.declared.Access.{Access}
 use Rattle.causes.specs.declared.Access.TheVariants.{Read, Write}
-use Rattle.directory_process.specs.declared.ProcessId.TheVariants.{Absent}
 use Rattle.interrupt_file.specs.declared.Pair.{Pair}
 use Rattle.interrupt_file.specs.declared.Report.{Report}
 use Rattle.iommu_files.specs.Files.{report_of}
@@ -41,7 +40,7 @@ swapped m = lent_at 0x50000000 m 0x40000000 chip
 -- a device's access under a directory mode, and a message of identity 37 to a guest address
 abbrev access : ℕ → ℕ → Access → ℕ → ℕ → Op
 access mode device x a d =
-    request mode 0x40000 (record { device = device; process = Absent; supervisor = false; access = x; address = a; length = 4 }) d
+    request mode 0x40000 (record { device = device; process = None; supervisor = false; access = x; address = a; length = 4 }) d
 
 abbrev message : ℕ → Op
 message a = access 2 0 Write a 37

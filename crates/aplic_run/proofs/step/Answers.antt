@@ -3,14 +3,17 @@ use Rattle.aplic_run.proofs.Steps.{steps}
 use Rattle.std.proofs.Common.{rules}
 use Rattle.aplic_run.proofs.step.Goals as goal
 
-pub returns-then-kind-eq0 : goal.returns-then-kind-eq0
-returns-then-kind-eq0 c = search (steps, rules)
+pub returns-in-Wire : goal.returns-in-Wire
+returns-in-Wire c = search (steps, rules)
 
-pub returns-then-kind-eq1 : goal.returns-then-kind-eq1
-returns-then-kind-eq1 c = search (steps, rules)
+pub returns-in-Read : goal.returns-in-Read
+returns-in-Read c = search (steps, rules)
 
-pub returns-then-kind-eq2 : goal.returns-then-kind-eq2
-returns-then-kind-eq2 c = search (steps, rules)
+pub returns-in-Forward : goal.returns-in-Forward
+returns-in-Forward c = search (steps, rules)
 
-pub returns : goal.returns
-returns c = search (steps, rules)
+pub returns-in-Claim : goal.returns-in-Claim
+returns-in-Claim c = search (steps, rules)
+
+pub returns-in-Signal : goal.returns-in-Signal
+returns-in-Signal c = search (steps, rules)

@@ -4,8 +4,5 @@ use Rattle.aplic_write.proofs.Writes.{ones}
 use Rattle.std.proofs.Common.{rules}
 use Rattle.aplic_write.proofs.aim.Goals as goal
 
-pub returns-clause-table : goal.returns-clause-table
-returns-clause-table c = search (beyond, ones, rules)
-
 pub returns-clause-beyond : goal.returns-clause-beyond
 returns-clause-beyond c = search (beyond, ones, rules)

@@ -1,11 +1,7 @@
 -- The goals of `configure` that the laws of this crate close.
 use Rattle.aplic_words.proofs.States.{beyond-both}
-use Rattle.aplic_write.proofs.Writes.{configure-goes}
 use Rattle.std.proofs.Common.{rules}
 use Rattle.aplic_write.proofs.configure.Goals as goal
 
-pub returns-clause-table : goal.returns-clause-table
-returns-clause-table c = search (beyond-both, configure-goes, rules)
-
 pub returns-clause-beyond : goal.returns-clause-beyond
-returns-clause-beyond c = search (beyond-both, configure-goes, rules)
+returns-clause-beyond c = search (beyond-both, rules)

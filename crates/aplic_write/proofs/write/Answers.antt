@@ -4,14 +4,8 @@ use Rattle.aplic_write.proofs.Writes.{ignoring}
 use Rattle.std.proofs.Common.{rules}
 use Rattle.aplic_write.proofs.write.Goals as goal
 
-pub returns-then-offset-lt16384-clause-table : goal.returns-then-offset-lt16384-clause-table
-returns-then-offset-lt16384-clause-table c = search (spans, ignoring, rules)
-
 pub returns-then-offset-lt16384-clause-ignored : goal.returns-then-offset-lt16384-clause-ignored
 returns-then-offset-lt16384-clause-ignored c = search (spans, ignoring, rules)
-
-pub returns-else-offset-lt16384-clause-table : goal.returns-else-offset-lt16384-clause-table
-returns-else-offset-lt16384-clause-table c = search (spans, ignoring, rules)
 
 pub returns-else-offset-lt16384-clause-ignored : goal.returns-else-offset-lt16384-clause-ignored
 returns-else-offset-lt16384-clause-ignored c = search (spans, ignoring, rules)

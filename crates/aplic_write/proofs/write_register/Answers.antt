@@ -5,26 +5,11 @@ use Rattle.register.proofs.Known.{knowing}
 use Rattle.std.proofs.Common.{rules}
 use Rattle.aplic_write.proofs.write_register.Goals as goal
 
-pub configure-requires : goal.configure-requires
-configure-requires c = search (beyond, writes, changed, knowing, rules)
-
-pub aim-requires : goal.aim-requires
-aim-requires c = search (beyond, writes, changed, knowing, rules)
-
-pub returns-in-DomainCfg-clause-table : goal.returns-in-DomainCfg-clause-table
-returns-in-DomainCfg-clause-table c = search (beyond, writes, changed, knowing, rules)
-
 pub returns-in-DomainCfg-clause-ignored : goal.returns-in-DomainCfg-clause-ignored
 returns-in-DomainCfg-clause-ignored c = search (beyond, writes, changed, knowing, rules)
 
-pub returns-in-SourceCfg-clause-table : goal.returns-in-SourceCfg-clause-table
-returns-in-SourceCfg-clause-table c = search (beyond, writes, changed, knowing, rules)
-
 pub returns-in-SourceCfg-clause-ignored : goal.returns-in-SourceCfg-clause-ignored
 returns-in-SourceCfg-clause-ignored c = search (beyond, writes, changed, knowing, rules)
-
-pub returns-in-OfBits-clause-table : goal.returns-in-OfBits-clause-table
-returns-in-OfBits-clause-table c = search (beyond, writes, changed, knowing, rules)
 
 pub returns-in-OfBits-clause-beyond : goal.returns-in-OfBits-clause-beyond
 returns-in-OfBits-clause-beyond c = search (beyond, writes, changed, knowing, rules)
@@ -32,11 +17,5 @@ returns-in-OfBits-clause-beyond c = search (beyond, writes, changed, knowing, ru
 pub returns-in-OfBits-clause-ignored : goal.returns-in-OfBits-clause-ignored
 returns-in-OfBits-clause-ignored c = search (beyond, writes, changed, knowing, rules)
 
-pub returns-in-Target-clause-table : goal.returns-in-Target-clause-table
-returns-in-Target-clause-table c = search (beyond, writes, changed, knowing, rules)
-
 pub returns-in-Target-clause-ignored : goal.returns-in-Target-clause-ignored
 returns-in-Target-clause-ignored c = search (beyond, writes, changed, knowing, rules)
-
-pub returns-in-Nothing-clause-table : goal.returns-in-Nothing-clause-table
-returns-in-Nothing-clause-table c = search (beyond, writes, changed, knowing, rules)

@@ -15,4 +15,4 @@ returns-clause-told c = search (room_ways, rules)
 
 pub returns-clause-answer : goal.returns-clause-answer
 returns-clause-answer c =
-    long-report _ _ _ _ _ 66 _ _ _ _ _ (omega arith) c.report_refusal-refusal.ensures.0 c.report_refusal-refusal.ensures.1 c.file_bytes.ensures c.put_pairs-count.ensures.count c.put_pairs-count.ensures.words
+    long-report _ _ _ _ _ 66 _ _ _ _ _ _ (omega arith) c.report_refusal-checked.ensures.0 c.report_refusal-checked.ensures.1 c.number_told.ensures c.file_bytes.ensures c.put_pairs-count.ensures.count c.put_pairs-count.ensures.words

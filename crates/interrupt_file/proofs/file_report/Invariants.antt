@@ -1,10 +1,6 @@
 -- `Read`: the first k pairs are read, and their ones counted.
-use Rattle.std.proofs.Common.{◌-◌}
 use Rattle.interrupt_file.proofs.Reports.{Read}
 use Rattle.interrupt_file.proofs.file_report.Given as goal
 
 abbrev pub invariant-loop-k : goal.invariant-loop-k
 invariant-loop-k l = Read l.file l.k l.count l.pairs
-
-abbrev pub decreases-loop-k : goal.decreases-loop-k
-decreases-loop-k l = 32 - l.k

@@ -1,13 +1,9 @@
--- The goals of `report_refusal` that the laws of this crate close.
-use Rattle.iommu_refusals.proofs.Refusals.{file_checks}
-use Rattle.std.proofs.Common.{rules}
+-- The goal of `report_refusal` that the attribute doesn't close.
+use Rattle.iommu_refusals.proofs.Refusals.{report-windows}
+use Rattle.std.proofs.lemmas.Result.{err_from_is_err_and}
 use Rattle.iommu_refusals.proofs.report_refusal.Goals as goal
 
-pub returns-then-w-ne-PASSED : goal.returns-then-w-ne-PASSED
-returns-then-w-ne-PASSED c = search (file_checks, rules)
-
-pub returns-then-is_lent_file : goal.returns-then-is_lent_file
-returns-then-is_lent_file c = search (file_checks, rules)
-
-pub returns : goal.returns
-returns c = search (file_checks, rules)
+pub returns-in_err-window_refusal : goal.returns-in_err-window_refusal
+returns-in_err-window_refusal c =
+    let p = err_from_is_err_and c.from_residual.result c.from_residual.ensures.1 in
+    rw (p.1, p.2) (report-windows _ _ _ _ _ c.window_refusal.ensures.0 _ c.in_err-window_refusal.was, tt)

@@ -6,8 +6,8 @@ use Rattle.iommu_translation.proofs.in_directory.Goals as goal
 pub returns-then-too_wide : goal.returns-then-too_wide
 returns-then-too_wide c = search (directory_ways, rules)
 
-pub returns-in_default : goal.returns-in_default
-returns-in_default c = search (directory_ways, rules)
+pub returns-in-Ok : goal.returns-in-Ok
+returns-in-Ok c = search (directory_ways, rules)
 
-pub returns : goal.returns
-returns c = search (directory_ways, rules)
+pub returns-in-Err : goal.returns-in-Err
+returns-in-Err c = search (directory_ways, rules)

@@ -12,9 +12,9 @@ use Rattle.paging.proofs.descend.Given as goal
 abbrev pub invariant-loop-end : goal.invariant-loop-end
 invariant-loop-end l =
     (l.n < 5) × (l.n < levels_of l.fn.s) × (l.shift ≡ 12 + 9 * l.n) × Walkable l.order (length l.near) (length l.far)
-    × (memory (lent l.order l.near l.far) ≡ memory (lent l.fn.starts l.fn.first l.fn.second))
-    × (code_of (run (memory (lent l.fn.starts l.fn.first l.fn.second)) (raw_from l.fn.s l.fn.t l.fn.a l.n l.at))
-    ≡ code_of (run (memory (lent l.fn.starts l.fn.first l.fn.second)) (raw_walk l.fn.s l.fn.t l.fn.a l.fn.root)))
+    × (memory (lent l.order l.near l.far) ≡ memory l.w)
+    × (code_of (run (memory l.w) (raw_from l.fn.s l.fn.t l.fn.a l.n l.at))
+    ≡ code_of (run (memory l.w) (raw_walk l.fn.s l.fn.t l.fn.a l.fn.root)))
 
 abbrev pub decreases-loop-end : goal.decreases-loop-end
 decreases-loop-end l = 2 * l.n + pick (inside l.order.first (length l.near) l.at 8) 0 1

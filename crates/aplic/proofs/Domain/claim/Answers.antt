@@ -1,18 +1,15 @@
 -- The goals of `Domain::claim` that the laws of this crate close.
-use Rattle.aplic_calls.proofs.Claims.{below_of}
-use Rattle.aplic.proofs.Domains.{long, refused}
+use Rattle.aplic.proofs.Domains.{refused}
+use Rattle.aplic_calls.proofs.Claims.{below_ok}
+use Rattle.hart.proofs.Refusals.{ok-told, err-told}
 use Rattle.aplic.specs.Domain.{table_of}
 use Rattle.std.proofs.Common.{rules}
 use Rattle.aplic.proofs.Domain.claim.Goals as goal
 
-pub claim-value-requires : goal.claim-value-requires
+pub returns-in-Ok : goal.returns-in-Ok
 unfolding table_of
-claim-value-requires c = search (below_of, long, refused, rules)
+returns-in-Ok c = search (below_ok, refused, ok-told, err-told, rules)
 
-pub returns-then-refusal-eq0 : goal.returns-then-refusal-eq0
+pub returns-in-Err : goal.returns-in-Err
 unfolding table_of
-returns-then-refusal-eq0 c = search (below_of, long, refused, rules)
-
-pub returns-else-refusal-eq0 : goal.returns-else-refusal-eq0
-unfolding table_of
-returns-else-refusal-eq0 c = search (below_of, long, refused, rules)
+returns-in-Err c = search (below_ok, refused, ok-told, err-told, rules)

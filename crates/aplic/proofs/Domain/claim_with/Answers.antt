@@ -1,22 +1,19 @@
 -- The goals of `Domain::claim_with` that the laws of this crate close.
-use Rattle.aplic_calls.proofs.Claims.{below_of}
-use Rattle.aplic.proofs.Domains.{long, fine, refused}
+use Rattle.aplic.proofs.Domains.{refused}
+use Rattle.aplic_calls.proofs.Claims.{below_ok}
+use Rattle.hart.proofs.Refusals.{ok-told, err-told}
 use Rattle.aplic.specs.Domain.{table_of}
 use Rattle.std.proofs.Common.{rules}
 use Rattle.aplic.proofs.Domain.claim_with.Goals as goal
 
-pub returns-then-refusal-ne0 : goal.returns-then-refusal-ne0
+pub record_after-requires : goal.record_after-requires
 unfolding table_of
-returns-then-refusal-ne0 c = search (below_of, long, fine, refused, rules)
+record_after-requires c = search (below_ok, refused, ok-told, err-told, rules)
 
-pub take_top-value-requires : goal.take_top-value-requires
+pub returns-in-Ok : goal.returns-in-Ok
 unfolding table_of
-take_top-value-requires c = search (below_of, long, fine, refused, rules)
+returns-in-Ok c = search (below_ok, refused, ok-told, err-told, rules)
 
-pub record_after-y-requires : goal.record_after-y-requires
+pub returns-in-Err : goal.returns-in-Err
 unfolding table_of
-record_after-y-requires c = search (below_of, long, fine, refused, rules)
-
-pub returns : goal.returns
-unfolding table_of
-returns c = search (below_of, long, fine, refused, rules)
+returns-in-Err c = search (below_ok, refused, ok-told, err-told, rules)

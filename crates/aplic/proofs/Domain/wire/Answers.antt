@@ -1,13 +1,14 @@
 -- The goals of `Domain::wire` that the laws of this crate close.
-use Rattle.aplic_calls.proofs.Tables.{unwired_table}
+use Rattle.aplic_calls.proofs.Tables.{unwired-err}
+use Rattle.hart.proofs.Refusals.{ok-told, err-told}
 use Rattle.aplic.specs.Domain.{table_of}
 use Rattle.std.proofs.Common.{rules}
 use Rattle.aplic.proofs.Domain.wire.Goals as goal
 
-pub returns-then-refusal-eq0 : goal.returns-then-refusal-eq0
+pub returns-in-Ok : goal.returns-in-Ok
 unfolding table_of
-returns-then-refusal-eq0 c = search (unwired_table, rules)
+returns-in-Ok c = search (unwired-err, ok-told, err-told, rules)
 
-pub returns-else-refusal-eq0 : goal.returns-else-refusal-eq0
+pub returns-in-Err : goal.returns-in-Err
 unfolding table_of
-returns-else-refusal-eq0 c = search (unwired_table, rules)
+returns-in-Err c = search (unwired-err, ok-told, err-told, rules)

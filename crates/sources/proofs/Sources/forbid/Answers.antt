@@ -1,7 +1,0 @@
--- The goals of `Sources::forbid` that the laws of this crate close.
-use Rattle.sources.proofs.Actions.{masks}
-use Rattle.std.proofs.Common.{rules}
-use Rattle.sources.proofs.Sources.forbid.Goals as goal
-
-pub returns : goal.returns
-returns c = search (masks, rules)
