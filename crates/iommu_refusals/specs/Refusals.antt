@@ -55,7 +55,7 @@ request_refusal s n m q =
     ∷ check BadLength (bad_length q.address q.length)
     ∷ [])
 
--- "Takes check BadWindows, 2008, 2009", with 2011 "checked just after 2001"; of one identity, "with 2009 as before" (02, Req 12)
+-- "Takes check 2001, 2008, 2009", with 2011 "checked just after 2001"; of one identity, "with 2009 as before" (02, Req 12)
 unfoldable pub take_refusal : Starts → ℕ → ℕ → ℕ → ℕ → Result (Unit {0}) Refusal
 take_refusal starts n m file identity =
     first_bad
