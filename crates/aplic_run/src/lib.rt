@@ -13,11 +13,11 @@ use source::Delivery;
 
 // The words of an answer, four as in `iommu_files::Numbers`: a type of its own, since neither crate stands on the other.
 #[derive(Clone, Copy, Debug, PartialEq, Eq)]
-struct Reply {
-    kind: u64,
-    first: u64,
-    second: u64,
-    third: u64,
+pub struct Reply {
+    pub kind: u64,
+    pub first: u64,
+    pub second: u64,
+    pub third: u64,
 }
 
 impl Reply {

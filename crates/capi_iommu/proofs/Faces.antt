@@ -10,6 +10,7 @@ use Rattle.memory.specs.Window.{Lent, lent, Leaves}
 use Rattle.causes.specs.declared.Access.{Access}
 use Rattle.directory_process.specs.Found.{ProcessId}
 use Rattle.refusal.specs.declared.Refusal.TheVariants.{UnknownNumber}
+use Rattle.refusal.specs.Refusal.{number_of}
 use Rattle.iommu_refusals.specs.declared.Settings.{Settings}
 use Rattle.iommu_refusals.specs.declared.DeviceRequest.{DeviceRequest}
 use Rattle.iommu_files.specs.declared.Answer.{Answer}
@@ -43,9 +44,9 @@ module _ (s : Settings) (xs ys : List ℕ) (device process flags access address 
   abbrev left : Lent
   left = after_face (lent s.starts xs ys) s.mode s.root device process flags access address len value
 
-  pub access-unknown : k ≡ None → Refused UnknownNumber ≡ answer
+  pub access-unknown : (n : ℕ) → k ≡ None → n ≡ number_of UnknownNumber → Refused n ≡ answer
   unfolding request_face
-  access-unknown e = ap (chosen_face (lent s.starts xs ys) s.mode s.root device process flags access address len value) (sym e ∙ hk)
+  access-unknown n e h = ap Refused h ∙ ap (chosen_face (lent s.starts xs ys) s.mode s.root device process flags access address len value) (sym e ∙ hk)
 
   pub unknown-bytes : k ≡ None → Leaves left xs ys
   unfolding after_face
@@ -54,9 +55,9 @@ module _ (s : Settings) (xs ys : List ℕ) (device process flags access address 
       (unchanged s.starts xs ys)
 
   module _ (x : Access) (e : k ≡ Some x) where
-    pub flags-unknown : 3 < flags → Refused UnknownNumber ≡ answer
+    pub flags-unknown : (n : ℕ) → 3 < flags → n ≡ number_of UnknownNumber → Refused n ≡ answer
     unfolding request_face
-    flags-unknown h = simp (← hk, e, lt-ltb 3 flags h)
+    flags-unknown n h z = simp (← hk, e, lt-ltb 3 flags h, z)
 
     pub flags-bytes : 3 < flags → Leaves left xs ys
     unfolding after_face

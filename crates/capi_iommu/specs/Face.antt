@@ -11,7 +11,7 @@ use Rattle.iommu_refusals.specs.declared.Settings.{Settings}
 use Rattle.iommu_refusals.specs.declared.DeviceRequest.{DeviceRequest}
 use Rattle.iommu_files.specs.declared.Answer.{Answer}
 use Rattle.iommu_files.specs.declared.Answer.TheVariants.{Translated, Redirected, Stored, Discarded, Fault, Refused, Taken}
-use Rattle.iommu_files.specs.Answers.{numbers_of}
+use Rattle.iommu_files.specs.Answers.{numbers_of, refused}
 use Rattle.iommu.specs.Request.{request_of, after_request}
 
 -- "access (0 read, 1 write, 2 read-for-execute)", as document 02's case files have it
@@ -55,8 +55,8 @@ module _ (l : Lent) (mode root device process flags access address len value : �
   settings_face = settings_at l.first.start l.second.start mode root
 
   abbrev pub chosen_face : Option Access → Answer
-  chosen_face None = Refused UnknownNumber
-  chosen_face (Some x) = pick (ltb 3 flags) (Refused UnknownNumber) (request_of settings_face l.first.bytes l.second.bytes (asked device process flags address len x) value)
+  chosen_face None = refused UnknownNumber
+  chosen_face (Some x) = pick (ltb 3 flags) (refused UnknownNumber) (request_of settings_face l.first.bytes l.second.bytes (asked device process flags address len x) value)
 
   abbrev pub chosen_bytes : Option Access → Lent
   chosen_bytes None = l

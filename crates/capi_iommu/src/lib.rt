@@ -85,10 +85,10 @@ fn face(
     ensures bytes { Leaves (after_face (lent s.starts first.old second.old) s.mode s.root device process flags access address length value) first.new second.new }
 {
     let Some(x) = choose(access) else {
-        return Answer::Refused(Refusal::UnknownNumber);
+        return Answer::Refused(Refusal::UnknownNumber.number());
     };
     if 3 < flags {
-        return Answer::Refused(Refusal::UnknownNumber);
+        return Answer::Refused(Refusal::UnknownNumber.number());
     }
     let request = DeviceRequest {
         device,

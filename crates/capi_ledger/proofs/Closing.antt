@@ -13,8 +13,7 @@ use Rattle.memory.specs.Choice.{pick}
 use Rattle.causes.specs.declared.Access.{Access}
 use Rattle.iommu_refusals.specs.declared.DeviceRequest.{DeviceRequest}
 use Rattle.iommu_files.specs.declared.Answer.{Answer}
-use Rattle.iommu_files.specs.declared.Answer.TheVariants.{Refused}
-use Rattle.iommu_files.specs.Answers.{numbers_of}
+use Rattle.iommu_files.specs.Answers.{numbers_of, refused}
 use Rattle.memory.specs.Window.{Lent}
 use Rattle.iommu.specs.Operations.{Op, request, take, take_many, answer_of, after_of}
 use Rattle.ledger.specs.Machine.{asks, asks_nothing, AllGranted}
@@ -47,8 +46,8 @@ module _ (l : Lent) (mode root device process flags access address len value : �
   op x = request mode root (req x) value
 
   known : (x : Access) (f : Bool) → 5 ≤ length out
-      → Faith (pick f asks_nothing (asks (op x))) (numbers_told 0 (with_answer out (pick f (Refused UnknownNumber) (answer_of l (op x))))) (pick f l (after_of l (op x))) l
-  known x true r = ((2010, words-told out (Refused UnknownNumber) r), refl)
+      → Faith (pick f asks_nothing (asks (op x))) (numbers_told 0 (with_answer out (pick f (refused UnknownNumber) (answer_of l (op x))))) (pick f l (after_of l (op x))) l
+  known x true r = ((2010, words-told out (refused UnknownNumber) r), refl)
   known x false r = (words-told out (answer_of l (op x)) r, refl)
 
   request_faith : (b : Bool) → ltb (length out) 5 ≡ b → (k : Option Access)
@@ -56,7 +55,7 @@ module _ (l : Lent) (mode root device process flags access address len value : �
       (numbers_told (pick b 1 0) (pick b out (with_answer out (chosen_face l mode root device process flags access address len value k))))
       (pick b l (chosen_bytes l mode root device process flags access address len value k)) l
   request_faith true e k = ((0, refl), refl)
-  request_faith false e None = ((2010, words-told out (Refused UnknownNumber) (room out e)), refl)
+  request_faith false e None = ((2010, words-told out (refused UnknownNumber) (room out e)), refl)
   request_faith false e (Some x) = known x (ltb 3 flags) (room out e)
 
 -- a take of either kind

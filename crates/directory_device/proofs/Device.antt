@@ -13,7 +13,7 @@ use Rattle.memory.specs.Load.{Load}
 use Rattle.memory.specs.Walk.{Walk, done, on_value, load_or, run}
 use Rattle.memory.specs.declared.Starts.{Starts}
 use Rattle.memory.specs.Window.{Lent, doubleword, part_of, memory}
-use Rattle.memory.specs.Code.{Sound}
+use Rattle.memory.specs.Code.{Paged, Sound}
 use Rattle.memory.proofs.Choices.{yes-by, no-by}
 use Rattle.memory.proofs.Pages.{paged-word, paged-none}
 use Rattle.memory.proofs.Walks.{then, loads, at}
@@ -91,7 +91,8 @@ module _ (m : ℕ → Load) (a : ℕ) (v : Load) (hv : v ≡ m a) where
     valid t h = context-valid m Device Err a (rest a) v hv tc ev b hb t h
 
 -- a context by the bytes of its entry, in windows of whole pages
-module _ (l : Lent) (sound : Sound l) (a : ℕ) (aligned : a % 64 ≡ 0) (e : List ℕ) (he : e ≡ part_of l a 64) where
+module _ (l : Lent) (paged : Paged (record { first = l.first.start; second = l.second.start }) (length l.first.bytes) (length l.second.bytes)) (a : ℕ) (aligned : a % 64 ≡ 0)
+    (e : List ℕ) (he : e ≡ part_of l a 64) where
   abbrev m : ℕ → Load
   m = memory l
 
@@ -104,14 +105,14 @@ module _ (l : Lent) (sound : Sound l) (a : ℕ) (aligned : a % 64 ≡ 0) (e : Li
   pub entry-unread : (f : FaultInfo) → length e < 64 → f ≡ load_fault Device → Err f ≡ run m (device_context_at a)
   entry-unread f short h =
       device-unread m a None
-      (paged-none starts l.first.bytes l.second.bytes sound.paged 64 64 refl a (a / 64) 0 at-multiple (omega arith) (subst (λ (x : List ℕ). length x < 64) he short) ∙ ap m (add-zero a))
+      (paged-none starts l.first.bytes l.second.bytes paged 64 64 refl a (a / 64) 0 at-multiple (omega arith) (subst (λ (x : List ℕ). length x < 64) he short) ∙ ap m (add-zero a))
       f refl h
 
   module _ (long : 64 ≤ length e) where
     word : (k : ℕ) → k ≤ 56 → Some (doubleword e k) ≡ m (a + k)
     word k small =
         ap (λ x. Some (doubleword x k)) he
-        ∙ paged-word starts l.first.bytes l.second.bytes sound.paged 64 64 refl a (a / 64) k at-multiple (omega arith) (subst (λ (x : List ℕ). 64 ≤ length x) he long)
+        ∙ paged-word starts l.first.bytes l.second.bytes paged 64 64 refl a (a / 64) k at-multiple (omega arith) (subst (λ (x : List ℕ). 64 ≤ length x) he long)
 
     module _ (tc : ℕ) (ht : tc ≡ doubleword e 0) (b : Bool) (hb : b ≡ bit tc 0) where
       head : Some tc ≡ m a
@@ -137,7 +138,11 @@ module _ (l : Lent) (sound : Sound l) (a : ℕ) (aligned : a % 64 ≡ 0) (e : Li
           (next 48 (omega arith) (read6 a tc (doubleword e 8) (doubleword e 16) (doubleword e 24) (doubleword e 32) (doubleword e 40))
           (next 56 (omega arith) (read7 a tc (doubleword e 8) (doubleword e 16) (doubleword e 24) (doubleword e 32) (doubleword e 40) (doubleword e 48)) (h ∙ ap (checked_device a) hc))))))))
 
-pub ruleset device_context_ways = (entry-unread, entry-invalid, entry_read)
+-- where a walk may go, windows are whole pages
+pub sound_paged : (l : Lent) → Sound l → Paged (record { first = l.first.start; second = l.second.start }) (length l.first.bytes) (length l.second.bytes)
+sound_paged l sound = sound.paged
+
+pub ruleset device_context_ways = (entry-unread, entry-invalid, entry_read, sound_paged)
 
 -- a turn of the walk to where the context lies, with left - 1 levels above it: i is the index there, w the whole walk's answer
 module _ (m : ℕ → Load) (d left table i : ℕ) (w : Translation)

@@ -24,7 +24,7 @@ use Rattle.iommu_refusals.specs.Refusals.{request_refusal}
 use Rattle.iommu_translation.specs.Translate.{OutcomeFound}
 use Rattle.iommu_translation.specs.Translate.{translate_of}
 use Rattle.iommu_files.specs.declared.Answer.{Answer}
-use Rattle.iommu_files.specs.declared.Answer.TheVariants.{Refused}
+use Rattle.iommu_files.specs.Answers.{refused}
 use Rattle.iommu.specs.Request.{finish, request_of, reads_of, SameIn, SameAt}
 
 -- one window: a load of it, or what the other gives
@@ -64,7 +64,7 @@ module _ (s : Settings) (us vs xs ys : List ℕ) (q : DeviceRequest) (d : ℕ) (
   new = memory (lent s.starts xs ys)
 
   abbrev ends : (ℕ → Load) → ℕ → ℕ → Result (Unit {0}) Refusal → Answer
-  ends m n k r = unless_refused r Refused (finish s.starts n k q d (run m (translate_of s q)))
+  ends m n k r = unless_refused r refused (finish s.starts n k q d (run m (translate_of s q)))
 
   by_refusal : (r : Result (Unit {0}) Refusal) → SameAt (lent s.starts us vs) (lent s.starts xs ys) (unless_refused r (λ k. []) (trace old (translate_of s q)))
       → (ends old (length us) (length vs) r ≡ ends new (length xs) (length ys) r)

@@ -19,7 +19,8 @@ use Rattle.memory.proofs.Truth.{no_way, and_true}
 use Rattle.memory.proofs.Walks.{Read}
 use Rattle.interrupt_file.specs.File.{is_file}
 use Rattle.refusal.specs.declared.Refusal.{Refusal}
-use Rattle.refusal.specs.declared.Refusal.TheVariants.{BadWindows, BadDirectory, BadDevice, BadProcess, NoProcess, BadLength, FileOutside, Overlap, FileOverTables}
+use Rattle.refusal.specs.declared.Refusal.TheVariants.{BadWindows, BadDirectory, BadDevice, BadProcess, NoProcess, BadLength, FileOutside, NoFile, BadIdentity, UnknownNumber, Overlap, FileOverTables, BadQueue, NotInDomain}
+use Rattle.refusal.specs.Refusal.{number_of}
 use Rattle.refusal.specs.Checks.{unless_refused}
 use Rattle.iommu_refusals.specs.declared.Settings.{Settings}
 use Rattle.iommu_refusals.specs.declared.DeviceRequest.{DeviceRequest}
@@ -33,10 +34,11 @@ use Rattle.iommu_translation.specs.Translate.{translate_of}
 use Rattle.iommu_translation.proofs.Placed.{Placed, recorded-placed}
 use Rattle.iommu_files.specs.declared.Answer.{Answer}
 use Rattle.iommu_files.specs.declared.Answer.TheVariants.{Stored, Discarded, Refused}
+use Rattle.iommu_files.specs.Answers.{refused}
 use Rattle.iommu.specs.Request.{storable, page_holds, over_tables, finish, request_of}
 
--- an answer's refusal, and `other` where it has none
-why_of : Refusal → Answer → Refusal
+-- an answer's number of a refusal, and `other` where it has none
+why_of : ℕ → Answer → ℕ
 why_of other (Refused r) = r
 why_of other (Answer.Translated a) = other
 why_of other (Answer.Redirected a) = other
@@ -45,9 +47,29 @@ why_of other Discarded = other
 why_of other (Answer.Fault f) = other
 why_of other (Answer.Taken w) = other
 
-same_refusal : (r k : Refusal) → Refused r ≡ Refused k → r ≡ k
+same_refusal : (r k : ℕ) → Refused r ≡ Refused k → r ≡ k
 unfolding why_of
 same_refusal r k e = ap (why_of r) e
+
+not_2007 : Refused 2007 ≡ Refused 2012 → ⊥
+not_2007 e = let z = same_refusal 2007 2012 e in omega arith
+
+-- the refusal with the number 2012
+over_number : (k : Refusal) → number_of k ≡ 2012 → k ≡ FileOverTables
+over_number BadWindows e = absurd (omega arith)
+over_number BadDirectory e = absurd (omega arith)
+over_number BadDevice e = absurd (omega arith)
+over_number BadProcess e = absurd (omega arith)
+over_number NoProcess e = absurd (omega arith)
+over_number BadLength e = absurd (omega arith)
+over_number FileOutside e = absurd (omega arith)
+over_number NoFile e = absurd (omega arith)
+over_number BadIdentity e = absurd (omega arith)
+over_number UnknownNumber e = absurd (omega arith)
+over_number Overlap e = absurd (omega arith)
+over_number FileOverTables e = refl
+over_number BadQueue e = absurd (omega arith)
+over_number NotInDomain e = absurd (omega arith)
 
 -- bytes that don't go beyond the end of their page are held by the page of their number, and by no other
 one-page : (file a size : ℕ) → 0 < size → a % 4096 + size ≤ 4096 → page_holds file a size ≡ eqb (file / 4096) (a / 4096)
@@ -153,7 +175,7 @@ module _ (s : Settings) (xs ys : List ℕ) (q : DeviceRequest) (d : ℕ) where
   placed : (r : Recording) → run (memory (lent s.starts xs ys)) (translate_of s q) ≡ Ok (Recorded r) → Placed (memory (lent s.starts xs ys)) r
   placed r e = recorded-placed (memory (lent s.starts xs ys)) s q r e
 
-  finish-over : (o : OutcomeFound) → request_refusal s (length xs) (length ys) q ≡ Ok tt → run (memory (lent s.starts xs ys)) (translate_of s q) ≡ o → ends o ≡ Refused FileOverTables → Over
+  finish-over : (o : OutcomeFound) → request_refusal s (length xs) (length ys) q ≡ Ok tt → run (memory (lent s.starts xs ys)) (translate_of s q) ≡ o → ends o ≡ Refused 2012 → Over
   unfolding finish
   finish-over (Ok (Outcome.Translated a)) u h e = absurd (no_way cc)
   finish-over (Ok (Outcome.Redirected a)) u h e = absurd (no_way cc)
@@ -161,23 +183,23 @@ module _ (s : Settings) (xs ys : List ℕ) (q : DeviceRequest) (d : ℕ) where
   finish-over (Ok (Recorded r)) u h e = go (storable q d) (is_lent_file s.starts (length xs) (length ys) r.destination.file) (over_tables r) refl refl e
     where
       go : (b f v : Bool) → storable q d ≡ b → over_tables r ≡ v
-          → pick b (unless_refused (pick (not f) (Err FileOutside) (pick v (Err FileOverTables) (Ok tt))) Refused (Stored r.destination)) Discarded ≡ Refused FileOverTables → Over
+          → pick b (unless_refused (pick (not f) (Err FileOutside) (pick v (Err FileOverTables) (Ok tt))) refused (Stored r.destination)) Discarded ≡ Refused 2012 → Over
       go true true true t o z = record { recording = r; unrefused = u; named = h; storing = t; over = sym (by_pages _ r (placed r h)) ∙ o }
       go true true false t o z = absurd (no_way cc)
-      go true false v t o z = absurd (no_way cc)
+      go true false v t o z = absurd (not_2007 z)
       go false f v t o z = absurd (no_way cc)
 
   -- THE REFUSAL: "exactly when its file lies in the 4 KiB page that holds the request's device context or its message entry"
-  pub refused_over : (request_of s xs ys q d ≡ Refused FileOverTables) ↔ Over
+  pub refused_over : (request_of s xs ys q d ≡ Refused 2012) ↔ Over
   unfolding request_of finish
   refused_over = (λ e. go (request_refusal s (length xs) (length ys) q) refl e, back)
     where
       go : (k : Result (Unit {0}) Refusal) → request_refusal s (length xs) (length ys) q ≡ k
-          → unless_refused k Refused (ends (run (memory (lent s.starts xs ys)) (translate_of s q))) ≡ Refused FileOverTables → Over
+          → unless_refused k refused (ends (run (memory (lent s.starts xs ys)) (translate_of s q))) ≡ Refused 2012 → Over
       go (Ok tt) h e = finish-over (run (memory (lent s.starts xs ys)) (translate_of s q)) h refl e
-      go (Err k) h e = absurd (not_over s (length xs) (length ys) q (h ∙ ap Err (same_refusal k FileOverTables e)))
+      go (Err k) h e = absurd (not_over s (length xs) (length ys) q (h ∙ ap Err (over_number k (same_refusal (number_of k) 2012 e))))
 
-      back : Over → request_of s xs ys q d ≡ Refused FileOverTables
+      back : Over → request_of s xs ys q d ≡ Refused 2012
       back o =
           let p = placed o.recording o.named in
           let held = over-lent s.starts xs ys (passed-paged s (length xs) (length ys) q tt o.unrefused) o.recording p o.over in

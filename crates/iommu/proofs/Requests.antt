@@ -16,6 +16,7 @@ use Rattle.causes.specs.declared.FaultInfo.{FaultInfo}
 use Rattle.interrupt_file.specs.File.{is_file, after_store}
 use Rattle.refusal.specs.declared.Refusal.{Refusal}
 use Rattle.refusal.specs.declared.Refusal.TheVariants.{FileOutside, FileOverTables}
+use Rattle.refusal.specs.Refusal.{number_of}
 use Rattle.refusal.specs.Checks.{unless_refused}
 use Rattle.iommu_refusals.specs.declared.Settings.{Settings}
 use Rattle.iommu_refusals.specs.declared.DeviceRequest.{DeviceRequest}
@@ -28,6 +29,7 @@ use Rattle.iommu_refusals.specs.Refusals.{is_lent_file, request_refusal}
 use Rattle.iommu_translation.specs.Translate.{translate_of}
 use Rattle.causes.specs.Causes.{is_write}
 use Rattle.iommu.specs.Request.{reversed, identity_of, storable_as, over_tables, finish, stored_at, stored_by, request_of, after_request}
+use Rattle.iommu_files.specs.Answers.{refused}
 use Rattle.iommu_files.proofs.Answers.{answered}
 use Rattle.refusal.proofs.Checks.{passed, stopped}
 use Rattle.iommu_refusals.proofs.Bounds.{accepted-mode, accepted-root, accepted_walkable}
@@ -87,16 +89,16 @@ module _ (starts : Starts) (xs ys : List ℕ) (q : DeviceRequest) (value n : ℕ
     abbrev held : Bool
     held = is_lent_file starts (length xs) (length ys) r.destination.file
 
-    pub record_outside : (f : Bool) → f ≡ held → f ≡ false → Refused FileOutside ≡ ended
+    pub record_outside : (f : Bool) (k : ℕ) → f ≡ held → f ≡ false → k ≡ number_of FileOutside → Refused k ≡ ended
     unfolding finish
-    record_outside f hf o = simp (← hn, ← hs, t, ← hf, o)
+    record_outside f k hf o e = simp (← hn, ← hs, t, ← hf, o, e)
 
     module _ (over : Bool) (hover : over ≡ over_tables r) where
-      pub record_over : (k : Refusal) → over ≡ true → k ≡ pick held FileOverTables FileOutside → Refused k ≡ ended
+      pub record_over : (k : Refusal) (j : ℕ) → over ≡ true → k ≡ pick held FileOverTables FileOutside → j ≡ number_of k → Refused j ≡ ended
       unfolding finish
-      record_over k o e = simp (← hn, ← hs, t, ← hover, o, e) (go held)
+      record_over k j o e z = simp (← hn, ← hs, t, ← hover, o, e, z) (go held)
         where
-          go : (f : Bool) → Refused (pick f FileOverTables FileOutside) ≡ unless_refused (pick (not f) (Err FileOutside) (Err FileOverTables)) Refused (Stored r.destination)
+          go : (f : Bool) → refused (pick f FileOverTables FileOutside) ≡ unless_refused (pick (not f) (Err FileOutside) (Err FileOverTables)) refused (Stored r.destination)
           go true = refl
           go false = refl
 
@@ -162,12 +164,12 @@ module _ (s : Settings) (xs ys : List ℕ) (q : DeviceRequest) (value : ℕ) (r 
       left-same (lent s.starts xs ys) (stored_by s.starts xs ys q value answer) xs ys (e ∙ ap (stored_by s.starts xs ys q value) h)
       (unchanged s.starts xs ys)
 
-  pub request-refused : (why : Refusal) → r ≡ Err why → Refused why ≡ answer
+  pub request-refused : (why : Refusal) (k : ℕ) → r ≡ Err why → k ≡ number_of why → Refused k ≡ answer
   unfolding request_of
-  request-refused why z = stopped _ Refused _ _ why (sym hr ∙ z) refl
+  request-refused why k z e = stopped _ refused _ _ why (sym hr ∙ z) (ap Refused e)
 
   pub refused-bytes : (why : Refusal) → r ≡ Err why → Leaves (after_request s xs ys q value) xs ys
-  refused-bytes why z = kept (Refused why) refl (request-refused why z)
+  refused-bytes why z = kept (refused why) refl (request-refused why (number_of why) z refl)
 
   module _ (u : Unit {0}) (z : r ≡ Ok u) (o : OutcomeFound) (ho : o ≡ run (memory (lent s.starts xs ys)) (translate_of s q)) where
     abbrev ends : OutcomeFound → Answer
@@ -176,13 +178,13 @@ module _ (s : Settings) (xs ys : List ℕ) (q : DeviceRequest) (value : ℕ) (r 
     -- by the answer, so that whatever is done with one shows at its case
     pub request_finishes : (p : OutcomeFound) (a : Answer) → o ≡ p → a ≡ ends p → a ≡ answer
     unfolding request_of
-    request_finishes p (Answer.Translated k) e h = passed _ Refused _ _ u (sym hr ∙ z) (rw (← ho, e, ← h) refl)
-    request_finishes p (Answer.Redirected k) e h = passed _ Refused _ _ u (sym hr ∙ z) (rw (← ho, e, ← h) refl)
-    request_finishes p (Stored n) e h = passed _ Refused _ _ u (sym hr ∙ z) (rw (← ho, e, ← h) refl)
-    request_finishes p Discarded e h = passed _ Refused _ _ u (sym hr ∙ z) (rw (← ho, e, ← h) refl)
-    request_finishes p (Answer.Fault k) e h = passed _ Refused _ _ u (sym hr ∙ z) (rw (← ho, e, ← h) refl)
-    request_finishes p (Refused k) e h = passed _ Refused _ _ u (sym hr ∙ z) (rw (← ho, e, ← h) refl)
-    request_finishes p (Answer.Taken k) e h = passed _ Refused _ _ u (sym hr ∙ z) (rw (← ho, e, ← h) refl)
+    request_finishes p (Answer.Translated k) e h = passed _ refused _ _ u (sym hr ∙ z) (rw (← ho, e, ← h) refl)
+    request_finishes p (Answer.Redirected k) e h = passed _ refused _ _ u (sym hr ∙ z) (rw (← ho, e, ← h) refl)
+    request_finishes p (Stored n) e h = passed _ refused _ _ u (sym hr ∙ z) (rw (← ho, e, ← h) refl)
+    request_finishes p Discarded e h = passed _ refused _ _ u (sym hr ∙ z) (rw (← ho, e, ← h) refl)
+    request_finishes p (Answer.Fault k) e h = passed _ refused _ _ u (sym hr ∙ z) (rw (← ho, e, ← h) refl)
+    request_finishes p (Refused k) e h = passed _ refused _ _ u (sym hr ∙ z) (rw (← ho, e, ← h) refl)
+    request_finishes p (Answer.Taken k) e h = passed _ refused _ _ u (sym hr ∙ z) (rw (← ho, e, ← h) refl)
 
     -- an outcome that is no message to a file passes as it is, and changes nothing
     pub request-translates : (a : ℕ) → o ≡ Ok (Outcome.Translated a) → Answer.Translated a ≡ answer

@@ -20,6 +20,7 @@ use Rattle.iommu_files.specs.declared.Answer.{Answer}
 use Rattle.iommu_files.specs.declared.Answer.TheVariants.{Translated, Redirected, Stored, Discarded, Fault, Refused, Taken}
 use Rattle.iommu_refusals.specs.Refusals.{is_lent_file, request_refusal}
 use Rattle.iommu_translation.specs.Translate.{translate_of}
+use Rattle.iommu_files.specs.Answers.{refused}
 use Rattle.iommu_files.specs.Files.{changed_at}
 
 -- the four bytes of a data value reversed
@@ -60,12 +61,12 @@ unfoldable pub finish : Starts → ℕ → ℕ → DeviceRequest → ℕ → Out
 finish starts n m q d (Ok (Outcome.Translated a)) = Translated a
 finish starts n m q d (Ok (Outcome.Redirected a)) = Redirected a
 finish starts n m q d (Err f) = Fault f
-finish starts n m q d (Ok (Recorded r)) = pick (storable q d) (unless_refused (store_refusal starts n m r) Refused (Stored r.destination)) Discarded
+finish starts n m q d (Ok (Recorded r)) = pick (storable q d) (unless_refused (store_refusal starts n m r) refused (Stored r.destination)) Discarded
 
 -- the answer to a request with its data value, on the bytes of both windows
 unfoldable pub request_of : Settings → List ℕ → List ℕ → DeviceRequest → ℕ → Answer
 request_of s first second q d =
-    unless_refused (request_refusal s (length first) (length second) q) Refused
+    unless_refused (request_refusal s (length first) (length second) q) refused
     (finish s.starts (length first) (length second) q d (run (memory (lent s.starts first second)) (translate_of s q)))
 
 -- a file's identity made pending

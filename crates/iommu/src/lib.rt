@@ -115,12 +115,12 @@ fn record_message(
         let d = r.destination;
         if over_tables(r) {
             let why = over_refusal(starts, first.len() as u64, second.len() as u64, d.file);
-            return Answer::Refused(why);
+            return Answer::Refused(why.number());
         }
         if store_lent(starts, first, second, d.file, n) {
             return Answer::Stored(d);
         }
-        return Answer::Refused(Refusal::FileOutside);
+        return Answer::Refused(Refusal::FileOutside.number());
     }
     Answer::Discarded
 }
@@ -141,7 +141,7 @@ pub fn request(
     let n = first.len() as u64;
     let m = second.len() as u64;
     if let Err(why) = iommu_refusals::request_refusal(s, n, m, q) {
-        return Answer::Refused(why);
+        return Answer::Refused(why.number());
     }
     let lent = Windows {
         starts,

@@ -26,7 +26,7 @@ use Rattle.iommu_refusals.proofs.Bounds.{take_lent_lem, take-doubleword, take_wa
 use Rattle.iommu_files.specs.declared.Answer.{Answer}
 use Rattle.iommu_files.specs.declared.Answer.TheVariants.{Refused, Taken}
 use Rattle.iommu_files.specs.declared.Numbers.{Numbers}
-use Rattle.iommu_files.specs.Answers.{numbers_of, Answered}
+use Rattle.iommu_files.specs.Answers.{numbers_of, refused, Answered}
 use Rattle.iommu_files.specs.Files.{changed_at, pending_at, answered_at, many_taken_at, take_of, after_take_of, take_many_of, after_take_many_of, report_of}
 
 -- a change in one window, and none in the other
@@ -47,9 +47,9 @@ left-same k l xs ys e h = subst (λ (m : Lent). Leaves m xs ys) e h
 -- a take of many
 module _ (starts : Starts) (xs ys : List ℕ) (file d mask : ℕ) (r : Result (Unit {0}) Refusal) (h : r ≡ take_many_refusal starts (length xs) (length ys) file d) where
   module _ (why : Refusal) (z : r ≡ Err why) where
-    pub many-refused : Refused why ≡ take_many_of starts xs ys file d mask
+    pub many-refused : (k : ℕ) → k ≡ number_of why → Refused k ≡ take_many_of starts xs ys file d mask
     unfolding take_many_of
-    many-refused = stopped _ Refused _ _ why (sym h ∙ z) refl
+    many-refused k e = stopped _ refused _ _ why (sym h ∙ z) (ap Refused e)
 
     pub many-kept : Leaves (after_take_many_of starts xs ys file d mask) xs ys
     unfolding after_take_many_of
@@ -59,7 +59,7 @@ module _ (starts : Starts) (xs ys : List ℕ) (file d mask : ℕ) (r : Result (U
   module _ (u : Unit {0}) (z : r ≡ Ok u) where
     pub many_made : (w : ℕ) → w ≡ answered_at starts xs ys file d mask → Taken w ≡ take_many_of starts xs ys file d mask
     unfolding take_many_of
-    many_made w e = passed _ Refused _ _ u (sym h ∙ z) (ap Taken e)
+    many_made w e = passed _ refused _ _ u (sym h ∙ z) (ap Taken e)
 
     pub many-left : (us vs : List ℕ) → Leaves (many_taken_at starts xs ys file d mask) us vs → Leaves (after_take_many_of starts xs ys file d mask) us vs
     unfolding after_take_many_of
@@ -71,18 +71,18 @@ pub ruleset many_ways = (answered, many-refused, many-kept, many_made, many-left
 taken-same : (w v : ℕ) → Taken w ≡ Taken v → w ≡ v
 taken-same w v e = ap (λ (n : Numbers). n.first) (ap numbers_of e)
 
-taken_refused : (w : ℕ) (r : Refusal) → Taken w ≡ Refused r → ⊥
+taken_refused : (w r : ℕ) → Taken w ≡ Refused r → ⊥
 taken_refused w r e = let k : ◌≡◌ {A = ℕ} 6 5 = ap (λ (n : Numbers). n.kind) (ap numbers_of e) in omega arith
 
 -- of one: refused, or made
 module _ (starts : Starts) (xs ys : List ℕ) (file n : ℕ) (r : Result (Unit {0}) Refusal) (h : r ≡ take_refusal starts (length xs) (length ys) file n) where
-  pub take_refused_lem : (why : Refusal) → r ≡ Err why → Refused why ≡ take_of starts xs ys file n
+  pub take_refused_lem : (why : Refusal) → r ≡ Err why → refused why ≡ take_of starts xs ys file n
   unfolding take_of
-  take_refused_lem why z = stopped _ Refused _ _ why (sym h ∙ z) refl
+  take_refused_lem why z = stopped _ refused _ _ why (sym h ∙ z) refl
 
   pub take_made : (u : Unit {0}) → r ≡ Ok u → (w : ℕ) → w ≡ pending_at starts xs ys file n → Taken w ≡ take_of starts xs ys file n
   unfolding take_of
-  take_made u z w e = passed _ Refused _ _ u (sym h ∙ z) (ap Taken e)
+  take_made u z w e = passed _ refused _ _ u (sym h ∙ z) (ap Taken e)
 
 -- of one, by that of many: the mask has its bit alone
 module _ (starts : Starts) (xs ys : List ℕ) (file n : ℕ) where
@@ -117,7 +117,7 @@ module _ (starts : Starts) (xs ys : List ℕ) (file n : ℕ) where
   unfolding take_many_of
   one_made a w h e = go _ same-refusal (sym e ∙ h.same)
     where
-      go : (r : Result (Unit {0}) Refusal) → r ≡ take_refusal starts (length xs) (length ys) file n → Taken w ≡ unless_refused r Refused (Taken (answered_at starts xs ys file (n / 64) mask))
+      go : (r : Result (Unit {0}) Refusal) → r ≡ take_refusal starts (length xs) (length ys) file n → Taken w ≡ unless_refused r refused (Taken (answered_at starts xs ys file (n / 64) mask))
           → Answered (Taken (w / 2 ^ (n % 64))) (take_of starts xs ys file n)
       go (Ok u) z k =
           let v : w ≡ pending_at starts xs ys file n * 2 ^ (n % 64) =
@@ -130,7 +130,7 @@ module _ (starts : Starts) (xs ys : List ℕ) (file n : ℕ) where
   unfolding take_many_of
   one-refused a h never = go _ same-refusal h.same
     where
-      go : (r : Result (Unit {0}) Refusal) → r ≡ take_refusal starts (length xs) (length ys) file n → a ≡ unless_refused r Refused (Taken (answered_at starts xs ys file (n / 64) mask))
+      go : (r : Result (Unit {0}) Refusal) → r ≡ take_refusal starts (length xs) (length ys) file n → a ≡ unless_refused r refused (Taken (answered_at starts xs ys file (n / 64) mask))
           → Answered a (take_of starts xs ys file n)
       go (Ok u) z k = absurd (never _ k)
       go (Err r) z k = answered _ _ (k ∙ take_refused_lem starts xs ys file n (Err r) z r refl)

@@ -9,7 +9,8 @@ use Rattle.interrupt_file.specs.File.{is_file, pending_of, after_take, taken_of,
 use Rattle.interrupt_file.specs.Report.{file_report, refused_report}
 use Rattle.interrupt_file.specs.declared.Report.{Report}
 use Rattle.iommu_files.specs.declared.Answer.{Answer}
-use Rattle.iommu_files.specs.declared.Answer.TheVariants.{Refused, Taken}
+use Rattle.iommu_files.specs.declared.Answer.TheVariants.{Taken}
+use Rattle.iommu_files.specs.Answers.{refused}
 use Rattle.iommu_refusals.specs.Refusals.{take_refusal, take_many_refusal, report_refusal}
 
 -- the windows' starts and bytes
@@ -40,7 +41,7 @@ module _ (starts : Starts) (first second : List ℕ) where
 
   -- "6 take made: 1 if it was pending, else 0"
   unfoldable pub take_of : ℕ → ℕ → Answer
-  take_of file n = unless_refused (take_refusal starts (length first) (length second) file n) Refused (Taken (pending_at file n))
+  take_of file n = unless_refused (take_refusal starts (length first) (length second) file n) refused (Taken (pending_at file n))
 
   unfoldable pub after_take_of : ℕ → ℕ → Lent
   after_take_of file n =
@@ -49,7 +50,7 @@ module _ (starts : Starts) (first second : List ℕ) where
   -- "answers 6 with the ones that were set"
   unfoldable pub take_many_of : ℕ → ℕ → ℕ → Answer
   take_many_of file d mask =
-      unless_refused (take_many_refusal starts (length first) (length second) file d) Refused (Taken (answered_at file d mask))
+      unless_refused (take_many_refusal starts (length first) (length second) file d) refused (Taken (answered_at file d mask))
 
   unfoldable pub after_take_many_of : ℕ → ℕ → ℕ → Lent
   after_take_many_of file d mask =

@@ -12,7 +12,6 @@ use causes::FaultInfo;
 use interrupt_file::Report;
 use memory::{Starts, Windows};
 use message::Destination;
-use refusal::Refusal;
 
 // What a request or a take is answered. Document 01 names this form, an enum whose Fault case holds a fault with its stage.
 #[derive(Clone, Copy)]
@@ -22,7 +21,7 @@ pub enum Answer {
     Stored(Destination),
     Discarded,
     Fault(FaultInfo),
-    Refused(Refusal),
+    Refused(u64),
     Taken(u64),
 }
 
@@ -50,7 +49,7 @@ pub fn to_numbers(a: Answer) -> Numbers
         },
         Answer::Discarded => numbered(3, 0),
         Answer::Fault(f) => numbered(4, f.cause),
-        Answer::Refused(r) => numbered(5, r.number()),
+        Answer::Refused(r) => numbered(5, r),
         Answer::Taken(w) => numbered(6, w),
     }
 }
@@ -102,7 +101,7 @@ pub fn take_many(
     let n = first.len() as u64;
     let m = second.len() as u64;
     if let Err(why) = iommu_refusals::take_many_refusal(starts, n, m, file, d) {
-        return Answer::Refused(why);
+        return Answer::Refused(why.number());
     }
     Answer::Taken(take_lent(starts, first, second, file, d, mask))
 }

@@ -73,6 +73,9 @@ fn overlapping(starts: Starts, n: u64, m: u64) -> bool
     (starts.first < end) & (starts.first < other) & (starts.second < end) & (starts.second < other)
 }
 
+// What is answered where no check stops a call.
+const PASSED: Result<(), Refusal> = Ok(());
+
 // The first check that the windows fail refuses them.
 #[tactic(auto, using(crate::proofs::Refusals::windows_checks))]
 fn window_refusal(starts: Starts, n: u64, m: u64) -> Result<(), Refusal>
@@ -160,7 +163,7 @@ pub fn request_refusal(s: Settings, n: u64, m: u64, q: DeviceRequest) -> Result<
     if bad_length(q.address, q.length) {
         return Err(Refusal::BadLength);
     }
-    Ok(())
+    PASSED
 }
 
 // The first check that a take of many fails refuses it; that of one fails the same, with the doubleword of its identity.
@@ -175,7 +178,7 @@ pub fn take_many_refusal(starts: Starts, n: u64, m: u64, file: u64, d: u64) -> R
     if 31 < d {
         return Err(Refusal::BadIdentity);
     }
-    Ok(())
+    PASSED
 }
 
 // The first check that a report fails refuses it.
@@ -187,5 +190,5 @@ pub fn report_refusal(starts: Starts, n: u64, m: u64, file: u64) -> Result<(), R
     if !is_lent_file(starts, n, m, file) {
         return Err(Refusal::NoFile);
     }
-    Ok(())
+    PASSED
 }

@@ -24,7 +24,7 @@ use Rattle.iommu_translation.specs.declared.Outcome.{Outcome}
 use Rattle.iommu_translation.specs.Translate.{OutcomeFound}
 use Rattle.iommu_files.specs.declared.Answer.{Answer}
 use Rattle.iommu_files.specs.declared.Answer.TheVariants.{Translated, Redirected, Stored, Discarded, Fault, Refused, Taken}
-use Rattle.iommu_files.specs.Answers.{numbers, numbers_of}
+use Rattle.iommu_files.specs.Answers.{numbers, numbers_of, refused}
 use Rattle.iommu_refusals.specs.Refusals.{bad_windows, overlap, is_lent_file, request_refusal, take_many_refusal}
 use Rattle.iommu_translation.specs.Translate.{translate_of}
 use Rattle.iommu.specs.Request.{identity_of, storable, over_tables, finish, request_of}
@@ -48,7 +48,7 @@ finish-stores starts n m q value d (Ok (Outcome.Recorded r)) e =
     (r, refl, g.0, g.1, g.2, g.3)
   where
     go : (s f v : Bool) → storable q value ≡ s → is_lent_file starts n m r.destination.file ≡ f → over_tables r ≡ v
-        → pick s (unless_refused (pick (not f) (Err FileOutside) (pick v (Err FileOverTables) (Ok tt))) Refused (Stored r.destination)) Discarded ≡ Stored d
+        → pick s (unless_refused (pick (not f) (Err FileOutside) (pick v (Err FileOverTables) (Ok tt))) refused (Stored r.destination)) Discarded ≡ Stored d
         → (r.destination ≡ d) × (storable q value ≡ true) × (is_lent_file starts n m r.destination.file ≡ true) × (over_tables r ≡ false)
     go true true false h k o z = (cc, h, k, o)
     go true true true h k o z = absurd (no_way (cc))
@@ -82,7 +82,7 @@ module _ (l : Lent) where
     stored-storing e = go (request_refusal (settings l mode root) (length xs) (length ys) q) refl e
       where
         go : (r : Result (Unit {0}) Refusal) → request_refusal (settings l mode root) (length xs) (length ys) q ≡ r
-            → unless_refused r Refused (finish starts (length xs) (length ys) q value (run (memory l) (translate_of (settings l mode root) q))) ≡ Stored d
+            → unless_refused r refused (finish starts (length xs) (length ys) q value (run (memory l) (translate_of (settings l mode root) q))) ≡ Stored d
             → Storing l mode root q value d
         go (Ok tt) h z =
             let f = finish-stores starts (length xs) (length ys) q value d _ z in
@@ -163,6 +163,15 @@ told-stored (Fault f) d h = absurd (omega (arith, ap kind_of h))
 told-stored (Refused r) d h = absurd (omega (arith, ap kind_of h))
 told-stored (Taken w) d h = absurd (omega (arith, ap kind_of h))
 
+pub told-refused : (a : Answer) (r : ℕ) → numbers_of a ≡ numbers_of (Refused r) → a ≡ Refused r
+told-refused (Refused k) r h = ap Refused (ap first_of h)
+told-refused (Stored e) r h = absurd (omega (arith, ap kind_of h))
+told-refused (Translated a) r h = absurd (omega (arith, ap kind_of h))
+told-refused (Redirected a) r h = absurd (omega (arith, ap kind_of h))
+told-refused Discarded r h = absurd (omega (arith, ap kind_of h))
+told-refused (Fault f) r h = absurd (omega (arith, ap kind_of h))
+told-refused (Taken w) r h = absurd (omega (arith, ap kind_of h))
+
 -- a request is answered 2 exactly when it is stored
 pub stored_iff : (l : Lent) (mode root : ℕ) (q : DeviceRequest) (value : ℕ) (d : Destination)
     → (numbers_of (answer_of l (request mode root q value)) ≡ numbers_of (Stored d)) ↔ Storing l mode root q value d
@@ -170,10 +179,10 @@ stored_iff l mode root q value d =
     (λ e. stored-storing l mode root q value d (told-stored _ d e), λ s. ap numbers_of (storing-stored l mode root q value d s))
 
 -- a take is refused exactly when a check refuses it
-refused-by : (k : Result (Unit {0}) Refusal) (v r : ℕ) → (numbers_of (unless_refused k Refused (Taken v)) ≡ numbers 5 r 0 0) ↔ Refuses k r
-refused-by k v r = (there k, λ h. ap (λ (c : Result (Unit {0}) Refusal). numbers_of (unless_refused c Refused (Taken v))) h.1 ∙ ap (λ (n : ℕ). numbers 5 n 0 0) h.2)
+refused-by : (k : Result (Unit {0}) Refusal) (v r : ℕ) → (numbers_of (unless_refused k refused (Taken v)) ≡ numbers 5 r 0 0) ↔ Refuses k r
+refused-by k v r = (there k, λ h. ap (λ (c : Result (Unit {0}) Refusal). numbers_of (unless_refused c refused (Taken v))) h.1 ∙ ap (λ (n : ℕ). numbers 5 n 0 0) h.2)
   where
-    there : (c : Result (Unit {0}) Refusal) → numbers_of (unless_refused c Refused (Taken v)) ≡ numbers 5 r 0 0 → Refuses c r
+    there : (c : Result (Unit {0}) Refusal) → numbers_of (unless_refused c refused (Taken v)) ≡ numbers 5 r 0 0 → Refuses c r
     there (Ok u) e = absurd (omega (arith, ap kind_of e))
     there (Err why) e = (why, refl, ap first_of e)
 
@@ -193,7 +202,7 @@ given a d e = rw e
 own : (x y : ℕ) → pick (eqb x x && eqb y y) store nothing ≡ store
 own x y = rw (eq-eqb x x refl, eq-eqb y y refl)
 
-quiet : (r : Result (Unit {0}) Refusal) (v : ℕ) → notices_of (numbers_of (unless_refused r Refused (Taken v))) ≡ []
+quiet : (r : Result (Unit {0}) Refusal) (v : ℕ) → notices_of (numbers_of (unless_refused r refused (Taken v))) ≡ []
 quiet (Ok u) v = refl
 quiet (Err r) v = refl
 

@@ -17,7 +17,7 @@ use Rattle.iommu_refusals.specs.declared.DeviceRequest.{DeviceRequest}
 use Rattle.iommu_files.specs.declared.Answer.{Answer}
 use Rattle.iommu_files.specs.declared.Answer.TheVariants.{Translated, Redirected, Stored, Discarded, Fault, Refused, Taken}
 use Rattle.iommu_files.specs.declared.Numbers.{Numbers}
-use Rattle.iommu_files.specs.Answers.{numbers_of}
+use Rattle.iommu_files.specs.Answers.{numbers_of, refused}
 use Rattle.iommu.specs.Request.{identity_of}
 use Rattle.iommu_files.specs.Files.{answered_at, take_many_of}
 use Rattle.iommu.specs.Operations.{Op, request, take, take_many, answer_of}
@@ -140,8 +140,8 @@ module _ (ps : List Place) (d : Different ps) where
     request-stores mode root q value (Taken v) e = total-zero ps
 
     many-takes : (g e mask : ℕ) (r : Result (Unit {0}) Refusal) → take_many_refused l g e ≡ r
-        → total ps (λ p n. one_take (op_event p.file n (take_many g e mask) (numbers_of (unless_refused r Refused (Taken (answered_at (starts l) (xs l) (ys l) g e mask))))))
-        ≡ op_takes (among ps) (take_many g e mask) (numbers_of (unless_refused r Refused (Taken (answered_at (starts l) (xs l) (ys l) g e mask))))
+        → total ps (λ p n. one_take (op_event p.file n (take_many g e mask) (numbers_of (unless_refused r refused (Taken (answered_at (starts l) (xs l) (ys l) g e mask))))))
+        ≡ op_takes (among ps) (take_many g e mask) (numbers_of (unless_refused r refused (Taken (answered_at (starts l) (xs l) (ys l) g e mask))))
     many-takes g e mask (Err r) h = total-zero ps
     many-takes g e mask (Ok tt) h =
         let k = many-passed l g e h in

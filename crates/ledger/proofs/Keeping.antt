@@ -23,7 +23,7 @@ use Rattle.iommu_refusals.specs.declared.DeviceRequest.{DeviceRequest}
 use Rattle.iommu_files.specs.declared.Answer.{Answer}
 use Rattle.iommu_files.specs.declared.Answer.TheVariants.{Translated, Redirected, Stored, Discarded, Fault, Refused, Taken}
 use Rattle.iommu_files.specs.declared.Numbers.{Numbers}
-use Rattle.iommu_files.specs.Answers.{numbers, numbers_of}
+use Rattle.iommu_files.specs.Answers.{numbers, numbers_of, refused}
 use Rattle.iommu_refusals.specs.Refusals.{is_lent_file}
 use Rattle.iommu.specs.Request.{identity_of, stored_by, after_request}
 use Rattle.iommu_files.specs.Files.{changed_at, answered_at, many_taken_at, take_many_of, after_take_many_of}
@@ -212,8 +212,8 @@ module _ (p : Place) (n : ℕ) (ln : n < 2048) (l : Lent) (h : Held p l) where
 
   many-step : (f d mask : ℕ) (r : Result (Unit {0}) Refusal) → take_many_refused l f d ≡ r
       → (pending_in (unless_refused r (λ k. lent (starts l) (xs l) (ys l)) (many_taken_at (starts l) (xs l) (ys l) f d mask)) p n
-      ≡ step b (op_event p.file n (take_many f d mask) (numbers_of (unless_refused r Refused (Taken (answered_at (starts l) (xs l) (ys l) f d mask))))))
-      × Told b (op_event p.file n (take_many f d mask) (numbers_of (unless_refused r Refused (Taken (answered_at (starts l) (xs l) (ys l) f d mask)))))
+      ≡ step b (op_event p.file n (take_many f d mask) (numbers_of (unless_refused r refused (Taken (answered_at (starts l) (xs l) (ys l) f d mask))))))
+      × Told b (op_event p.file n (take_many f d mask) (numbers_of (unless_refused r refused (Taken (answered_at (starts l) (xs l) (ys l) f d mask)))))
   many-step f d mask (Ok tt) e =
       let k = many-passed l f d e in
       let t = many-side w p.file n h ln f d mask k.2 (answered_at (starts l) (xs l) (ys l) f d mask) _ refl (side-answered l f k.0 k.1 d mask p.side) in
@@ -307,7 +307,7 @@ module _ (l : Lent) (s : Side) (a : ℕ) (inw : holds (window_of l s) a 1 ≡ tr
   request-quiet mode root q value (Taken v) e h = own-byte
 
   taken-quiet : (f d mask : ℕ) (r : Result (Unit {0}) Refusal) → take_many_refused l f d ≡ r
-      → Quiet l s a (λ file i. op_event file i (take_many f d mask) (numbers_of (unless_refused r Refused (Taken (answered_at (starts l) (xs l) (ys l) f d mask)))))
+      → Quiet l s a (λ file i. op_event file i (take_many f d mask) (numbers_of (unless_refused r refused (Taken (answered_at (starts l) (xs l) (ys l) f d mask)))))
       → byte_at (window_of (unless_refused r (λ k. lent (starts l) (xs l) (ys l)) (many_taken_at (starts l) (xs l) (ys l) f d mask)) s) a ≡ byte_at (window_of l s) a
   taken-quiet f d mask (Err r) e h = own-byte
   taken-quiet f d mask (Ok tt) e h =

@@ -21,7 +21,7 @@ use Rattle.word.proofs.Bits.{bit_pow, zero-digit}
 use Rattle.interrupt_file.proofs.Pending.{pending_lt}
 use Rattle.interrupt_file.specs.File.{is_file, pending_of}
 use Rattle.iommu_files.specs.declared.Answer.TheVariants.{Refused, Taken}
-use Rattle.iommu_files.specs.Answers.{numbers_of}
+use Rattle.iommu_files.specs.Answers.{numbers_of, refused}
 use Rattle.iommu_files.specs.Files.{pending_at, answered_at, take_of, take_many_of}
 use Rattle.iommu_files.proofs.Files.{same-refusal, one-answered, one-after}
 use Rattle.iommu.specs.Operations.{Op, take, take_many, answer_of, after_of}
@@ -89,20 +89,20 @@ module _ (l : Lent) (f i : ℕ) where
   pub one-event : (file n : ℕ) → op_event file n (take f i) (numbers_of (answer_of l (take f i))) ≡ op_event file n many (numbers_of (answer_of l many))
   unfolding take_of take_many_of
   one-event file n =
-      by_checks (λ r v. op_event file n (take f i) (numbers_of (unless_refused r Refused (Taken v)))) (λ r v. op_event file n many (numbers_of (unless_refused r Refused (Taken v)))) go
+      by_checks (λ r v. op_event file n (take f i) (numbers_of (unless_refused r refused (Taken v)))) (λ r v. op_event file n many (numbers_of (unless_refused r refused (Taken v)))) go
     where
-      go : (r : Result (Unit {0}) Refusal) → op_event file n (take f i) (numbers_of (unless_refused r Refused (Taken p)))
-          ≡ op_event file n many (numbers_of (unless_refused r Refused (Taken (p * 2 ^ (i % 64)))))
+      go : (r : Result (Unit {0}) Refusal) → op_event file n (take f i) (numbers_of (unless_refused r refused (Taken p)))
+          ≡ op_event file n many (numbers_of (unless_refused r refused (Taken (p * 2 ^ (i % 64)))))
       go (Ok u) = ap (λ (b : Bool). pick (eqb f file && b) successful_take nothing) (bit_of p i n small)
       go (Err r) = refl
 
   pub one_weight : (these : ℕ → Bool) → op_takes these (take f i) (numbers_of (answer_of l (take f i))) ≡ op_takes these many (numbers_of (answer_of l many))
   unfolding take_of take_many_of
   one_weight these =
-      by_checks (λ r v. op_takes these (take f i) (numbers_of (unless_refused r Refused (Taken v)))) (λ r v. op_takes these many (numbers_of (unless_refused r Refused (Taken v)))) go
+      by_checks (λ r v. op_takes these (take f i) (numbers_of (unless_refused r refused (Taken v)))) (λ r v. op_takes these many (numbers_of (unless_refused r refused (Taken v)))) go
     where
-      go : (r : Result (Unit {0}) Refusal) → op_takes these (take f i) (numbers_of (unless_refused r Refused (Taken p)))
-          ≡ op_takes these many (numbers_of (unless_refused r Refused (Taken (p * 2 ^ (i % 64)))))
+      go : (r : Result (Unit {0}) Refusal) → op_takes these (take f i) (numbers_of (unless_refused r refused (Taken p)))
+          ≡ op_takes these many (numbers_of (unless_refused r refused (Taken (p * 2 ^ (i % 64)))))
       go (Ok u) = weight_of p (i % 64) (these f) small
       go (Err r) = refl
 

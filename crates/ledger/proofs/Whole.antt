@@ -11,7 +11,7 @@ use Rattle.memory.specs.Window.{Lent}
 use Rattle.iommu_refusals.specs.Refusals.{is_lent_file}
 use Rattle.iommu_files.specs.declared.Answer.{Answer}
 use Rattle.iommu_files.specs.declared.Answer.TheVariants.{Translated, Redirected, Stored, Discarded, Fault, Refused, Taken}
-use Rattle.iommu_files.specs.Answers.{numbers_of}
+use Rattle.iommu_files.specs.Answers.{numbers_of, refused}
 use Rattle.iommu_files.specs.Files.{answered_at, take_many_of}
 use Rattle.iommu.specs.Operations.{Op, request, take, take_many, answer_of}
 use Rattle.ledger.specs.Places.{Side, first_window, second_window, Place, place, lies_in, is_place}
@@ -71,8 +71,8 @@ module _ (files : List Place) where
     many-take f d mask = go (take_many_refused l f d) refl
       where
         go : (r : Result (Unit {0}) Refusal) → take_many_refused l f d ≡ r
-            → op_takes (among files) (take_many f d mask) (numbers_of (unless_refused r Refused (Taken (answered_at (starts l) (xs l) (ys l) f d mask))))
-            ≡ op_takes every (take_many f d mask) (numbers_of (unless_refused r Refused (Taken (answered_at (starts l) (xs l) (ys l) f d mask))))
+            → op_takes (among files) (take_many f d mask) (numbers_of (unless_refused r refused (Taken (answered_at (starts l) (xs l) (ys l) f d mask))))
+            ≡ op_takes every (take_many f d mask) (numbers_of (unless_refused r refused (Taken (answered_at (starts l) (xs l) (ys l) f d mask))))
         go (Ok tt) e = rw (full-lent f (many-passed l f d e).1)
         go (Err r) e = refl
 

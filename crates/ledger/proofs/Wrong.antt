@@ -7,7 +7,6 @@ use mathlib.Core.List.{[], ◌∷◌}
 use native.Mathlib.Omega.{arith}
 use lib.Count.{ones_in, ones}
 use lib.Dec.{eqb}
-use Rattle.refusal.specs.Refusal.{number_of}
 use Rattle.memory.specs.Choice.{pick}
 use Rattle.memory.specs.Window.{window_at, memory}
 use Rattle.paging_scheme.specs.Scheme.{legal_of, index_of}
@@ -114,7 +113,7 @@ abbrev over : Destination
 over = record { file = 0x40000200; notice = 0x28000000; number = 1031 }
 
 abbrev overlooked : Answer → Answer
-overlooked (Refused r) = pick (eqb (number_of r) 2012) (Stored over) (Refused r)
+overlooked (Refused r) = pick (eqb r 2012) (Stored over) (Refused r)
 overlooked (Translated a) = Translated a
 overlooked (Redirected a) = Redirected a
 overlooked (Stored d) = Stored d

@@ -44,7 +44,9 @@ pub enum Idc {
     Reserved,
 }
 
+// Inlined, as all of a C function is: none calls another.
 #[tactic(auto, unfolding(crate::specs::Register::pending_register))]
+#[inline(always)]
 fn pending_register(offset: u64) -> Register
     ensures { result ≡ pending_register offset }
 {
@@ -60,6 +62,7 @@ fn pending_register(offset: u64) -> Register
 }
 
 #[tactic(auto, unfolding(crate::specs::Register::enable_register))]
+#[inline(always)]
 fn enable_register(offset: u64) -> Register
     ensures { result ≡ enable_register offset }
 {
