@@ -1,6 +1,6 @@
 -- A non-leaf entry, and the first doubleword of a context, over plain values; for both directories. Assumes nothing.
 use Rattle.std.specs.Prelude.{Err, None, Ok, Some}
-use Prim.Native.Nat.{ℕ, ◌*◌, ◌<◌, ◌≤◌, ◌^◌}
+use Prim.Native.Nat.{ℕ, ◌+◌, ◌*◌, ◌<◌, ◌≤◌, ◌^◌}
 use native.Mathlib.Omega.{arith}
 use mathlib.Core.Bool.{Bool, true, false, not, ◌||◌, ◌&&◌}
 use mathlib.Core.Path.{◌≡◌, refl, sym, ap, ◌∙◌, subst}
@@ -30,7 +30,32 @@ module _ (t : Tree) (id n a b c r : ℕ) (h : r ≡ by_level n a b c) where
   pub index-process : t ≡ Process → a ≡ bits id 7 0 → b ≡ bits id 16 8 → c ≡ bits id 19 17 → r ≡ directory_index t id n
   index-process e p q s = fields p q s ∙ sym (ap (λ k. directory_index k id n) e)
 
-pub ruleset directory_index_ways = (index-device, index-process)
+pub index-own : (t : Tree) (id n r : ℕ) → t ≡ Process → r ≡ directory_index Process id n → r ≡ directory_index t id n
+index-own t id n r e h = h ∙ sym (ap (λ k. directory_index k id n) e)
+
+pub ruleset directory_index_ways = (index-device, index-process, index-own)
+
+-- a process's, by the shift of its level
+module _ (id n : ℕ) where
+  pub process-leaf : (r : ℕ) → n ≡ 0 → r ≡ bits id 7 0 → r ≡ directory_index Process id n
+  process-leaf r e h = h ∙ simp (eq-eqb n 0 e)
+
+  module _ (o : n ≡ 0 → ⊥) (s x r : ℕ) (hs : s ≡ pick (eqb n 1) 8 17) (hx : x ≡ bits id 19 0) (hr : r ≡ bits x (s + 8) s) where
+    pub process-above : r ≡ directory_index Process id n
+    process-above = hr ∙ go (eqb n 1) hs ∙ simp (ne_eqb n 0 o)
+      where
+        go : (b : Bool) → s ≡ pick b 8 17 → bits x (s + 8) s ≡ pick b (bits id 16 8) (bits id 19 17)
+        go true e = simp (e, hx) (omega arith)
+        go false e = simp (e, hx) (omega arith)
+
+    pub process-narrow : r < 512
+    process-narrow = go (eqb n 1) hs
+      where
+        go : (b : Bool) → s ≡ pick b 8 17 → r < 512
+        go true e = let h : r ≡ bits x 16 8 = hr ∙ simp e in omega (arith, h)
+        go false e = let h : r ≡ bits x 25 17 = hr ∙ simp e in omega (arith, h)
+
+pub ruleset process_index_ways = (process-leaf, process-above, process-narrow)
 
 -- how far into its table
 module _ (t : Tree) (i : ℕ) where

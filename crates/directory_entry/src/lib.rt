@@ -3,6 +3,7 @@
 
 ghost use Rattle.std.specs.Prelude.{◌≡◌, false, ◌*◌, ◌<◌, ◌^◌};
 ghost use Rattle.paging_scheme.specs.Scheme.{signed_of};
+ghost use Rattle.directory_entry.specs.declared.Tree.TheVariants.{Process};
 ghost use Rattle.directory_entry.specs.Entries.{load_fault, invalid as invalid_of, misconfigured as misconfigured_of, pointer_of, by_level, directory_index, leaf_size, too_wide};
 ghost use Rattle.directory_entry.specs.Fields.{root_mode_of, root_page_of, bare_of, scheme_mode, valid_mode, first_scheme, second_scheme, first_table, second_table};
 ghost use Rattle.directory_entry.specs.Code.{Below};
@@ -95,6 +96,18 @@ fn by_level(n: u64, a: u64, b: u64, c: u64) -> u64
     }
 }
 
+// Which entry is a process's: one shift for all above the leaf's, so that a walk keeps the process_id alone.
+#[tactic(auto, using(crate::proofs::Entries::process_index_ways))]
+fn process_index(id: u64, n: u64) -> u64
+    ensures { (result ≡ directory_index Process id n) × (result < 512) }
+{
+    if n == 0 {
+        return memory::field(id, 7, 0);
+    }
+    let low = if n == 1 { 8 } else { 17 };
+    memory::field(memory::field(id, 19, 0), low + 8, low)
+}
+
 // Which entry of a table n levels above the leaf's is that of a device or a process.
 pub fn directory_index(t: Tree, id: u64, n: u64) -> u64
     ensures { (result ≡ directory_index t id n) × (result < 512) }
@@ -106,12 +119,7 @@ pub fn directory_index(t: Tree, id: u64, n: u64) -> u64
             memory::field(id, 14, 6),
             memory::field(id, 23, 15),
         ),
-        Tree::Process => by_level(
-            n,
-            memory::field(id, 7, 0),
-            memory::field(id, 16, 8),
-            memory::field(id, 19, 17),
-        ),
+        Tree::Process => process_index(id, n),
     }
 }
 
